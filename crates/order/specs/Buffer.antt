@@ -1,0 +1,32 @@
+-- What the functions over a lent buffer promise.
+use Prim.Native.Nat.{ℕ, suc, _+_, _≤_}
+use mathlib.Core.Path.{_≡_}
+use mathlib.Core.Bool.{cond}
+use mathlib.Core.List.{List, [], _∷_}
+use lib.Dec.{ltb}
+use lib.ListN.{length, take}
+use lib.Seq.{sets}
+use Rattle.order.specs.Order.{insert, over}
+
+-- how many numbers at the front of a list are below x
+unfoldable pub rank : ℕ → List ℕ → ℕ
+rank x [] = 0
+rank x (y ∷ ys) = cond (ltb y x) (suc (rank x ys)) 0
+
+pub record Ranked (x : ℕ) (l : List ℕ) (r : ℕ) : Type 0 where
+  pub is : r ≡ rank x l
+  pub within : r ≤ length l
+
+-- x put in its place in a list that has room for so many
+abbrev pub putIn : ℕ → ℕ → List ℕ → List ℕ
+putIn room x l = cond (ltb (length l) room) (insert x l) l
+
+-- the buffer at entry and at exit, how many of its numbers are in order at entry, the number put in, the answer
+pub record Put (b b′ : List ℕ) (n x r : ℕ) : Type 0 where
+  pub written : b′ ≡ over (putIn (length b) x (take n b)) b
+  pub count : r ≡ length (putIn (length b) x (take n b))
+
+-- a list stored from place `at` on, as far as the buffer goes; the answer is the place after it
+pub record Wrote (b b′ : List ℕ) (at r : ℕ) (l : List ℕ) : Type 0 where
+  pub stored : b′ ≡ sets b at l
+  pub next : r ≡ at + length l

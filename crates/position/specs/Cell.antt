@@ -1,0 +1,28 @@
+-- A coordinate's cell, and whether it is on the map (document 01, "Positions"). Definitions only.
+use Prim.Native.Nat.{ℕ, _+_, _-_, _*_, _/_, _%_, _^_}
+use mathlib.Core.Bool.{Bool, not, _&&_, cond}
+use lib.Dec.{ltb, eqb}
+use lib.Ieee.{Float, binary32, toBits, isNan}
+
+-- the exponent field e and the fraction field f of a float's bits
+abbrev pub exponent : ℕ → ℕ
+exponent bits = bits / 2 ^ 23 % 2 ^ 8
+
+abbrev pub fraction : ℕ → ℕ
+fraction bits = bits % 2 ^ 23
+
+-- n: sign bit apart, the value is n / 2 ^ 149
+unfoldable pub whole : ℕ → ℕ
+whole bits = cond (eqb (exponent bits) 0) (fraction bits) ((2 ^ 23 + fraction bits) * 2 ^ (exponent bits - 1))
+
+-- bits of no infinity and no NaN, with the sign bit clear, and n below the side times 2 ^ 149
+unfoldable pub inRange : ℕ → ℕ → Bool
+inRange side bits = ltb (exponent bits) 255 && ltb bits (2 ^ 31) && ltb (whole bits) (side * 2 ^ 149)
+
+-- a coordinate is on the map, on a side. lib.Ieee has one NaN, with no bits of its own, so it is named apart
+unfoldable pub onMap : ℕ → Float → Bool
+onMap side x = not (isNan x) && inRange side (toBits binary32 x)
+
+-- the greatest whole number not above the value
+unfoldable pub cellOf : Float → ℕ
+cellOf x = whole (toBits binary32 x) / 2 ^ 149

@@ -1,0 +1,104 @@
+-- n / 2 ^ 149 is the exact value that lib.Ieee gives a float: so a cell is the floor of a real number, and the map's end a comparison of real numbers.
+-- A number is `fin s m e`: m * 2 ^ e, negative where s is true. 2 ^ e is the fraction up e / down e. Assumes nothing.
+use Prim.Native.Nat.{ℕ, zero, suc, _+_, _-_, _*_, _/_, _%_, _^_, _<_}
+use mathlib.Core.Path.{_≡_, refl, sym, ap, ap₂, _∙_}
+use mathlib.Core.Bool.{Bool, true, false, not, _&&_, cond}
+use native.Mathlib.Nat.{mul-one, mul-comm, mul-right-comm, mul-div-mul-right, mul-le-mul-right, mul-lt-mul-of-pos-right, lt-of-mul-lt-mul-right, le-of-mul-le-mul-right}
+use native.Mathlib.Omega.{arith}
+use lib.Pow.{pow-pos, field}
+use lib.IntN.{ℤ}
+use lib.Dec.{T, ltb, leb, eqb}
+use borrow.Author.Tests.{eq-eqb, ne-eqb, eqb-false, lt-ltb, le-ltb, ltb-true, ltb-false, leb-true, leb-false}
+use lib.Ieee.{Float, nan, inf, fin, binary32, up, down, fits, isNan, odd, ofFields, ofBits, toBits}
+use lib.Ieee.Exact.{HasValue, odd-sign}
+use lib.Ieee.Bits.{ofBits-toBits}
+use lib.Ieee.Fits.{down-pos}
+use Rattle.position.specs.Cell.{exponent, fraction, whole, inRange, onMap, cellOf}
+
+-- ---- n by its two cases
+
+pub whole-zero : (bits : ℕ) → exponent bits ≡ 0 → whole bits ≡ fraction bits
+unfolding whole
+whole-zero bits h = rw (eq-eqb _ _ h)
+
+pub whole-some : (bits e : ℕ) → exponent bits ≡ suc e → whole bits ≡ (2 ^ 23 + fraction bits) * 2 ^ e
+unfolding whole
+whole-some bits e h =
+    let some : exponent bits ≡ 0 → ⊥ = omega arith in
+    let less : exponent bits - 1 ≡ e = omega arith in
+    rw (ne-eqb _ _ some, less)
+
+-- ---- the fields of a number's bits
+
+-- a number is no infinity and no NaN
+number : (a b s : Bool) (y : Float) (t : Bool) (m : ℕ) (x : ℤ) → cond a (cond b (inf s) nan) y ≡ fin t m x → (a ≡ false) × (y ≡ fin t m x)
+number true true s y t m x r = let z : _≡_ {A = ℕ} 0 1 = cc in absurd (omega arith)
+number true false s y t m x r = let z : _≡_ {A = ℕ} 0 1 = cc in absurd (omega arith)
+number false b s y t m x r = (refl, r)
+
+-- the number that a sign s, an exponent field e and a fraction field stand for
+read : (s : Bool) (e bits : ℕ) → exponent bits ≡ e → (t : Bool) (m : ℕ) (x : ℤ) → ofFields binary32 s e (fraction bits) ≡ fin t m x
+    → (t ≡ s) × (exponent bits < 255) × (m * up x * 2 ^ 149 ≡ whole bits * down x)
+unfolding ofFields
+read s zero bits h t m x r =
+    let v : HasValue (fin t m x) s (fraction bits * 2 ^ 0) (2 ^ 149) = rw r at (odd-sign 24 s (fraction bits) 0 149) in
+    (v .0, omega arith, v .1 ∙ ap (λ (n : ℕ). n * down x) (mul-one (fraction bits) ∙ sym (whole-zero bits h)))
+read s (suc e) bits h t m x r =
+    let d = 2 ^ 23 + fraction bits in
+    let q = number (eqb (suc e) 255) (eqb (fraction bits) 0) s (odd 24 s d e 149) t m x r in
+    let v : HasValue (fin t m x) s (d * 2 ^ e) (2 ^ 149) = rw (q .1) at (odd-sign 24 s d e 149) in
+    (v .0, omega (arith, eqb-false (suc e) 255 (q .0)), v .1 ∙ ap (λ (n : ℕ). n * down x) (sym (whole-some bits e h)))
+
+-- ---- tests on the same numbers
+
+not-le : (a b : ℕ) (s : Bool) → leb b a ≡ s → ltb a b ≡ not s
+not-le a b true h = le-ltb a b (leb-true b a h)
+not-le a b false h = lt-ltb a b (leb-false b a h)
+
+-- n / k and a / d are the same, so they stand the same way to c
+scaled : (n k a d c : ℕ) → 0 < k → 0 < d → n * d ≡ a * k → ltb n (c * k) ≡ ltb a (c * d)
+scaled n k a d c kp dp h = go (ltb a (c * d)) refl
+  where
+    go : (t : Bool) → ltb a (c * d) ≡ t → ltb n (c * k) ≡ t
+    go true e = lt-ltb n (c * k) (lt-of-mul-lt-mul-right d (rw (h, mul-right-comm c k d) (mul-lt-mul-of-pos-right (ltb-true a (c * d) e) kp)))
+    go false e = le-ltb n (c * k) (le-of-mul-le-mul-right (rw (h, mul-right-comm c k d) (mul-le-mul-right k (ltb-false a (c * d) e))) dp)
+
+-- ---- every number that an f32 holds
+
+module _ (s : Bool) (m : ℕ) (e : ℤ) (held : T (fits binary32 (fin s m e))) where
+  fields : (s ≡ leb (2 ^ 31) (toBits binary32 (fin s m e)))
+      × (exponent (toBits binary32 (fin s m e)) < 255)
+      × (m * up e * 2 ^ 149 ≡ whole (toBits binary32 (fin s m e)) * down e)
+  unfolding ofBits
+  fields =
+      let bits = toBits binary32 (fin s m e) in
+      read (leb (2 ^ 31) bits) (bits % 2 ^ 31 / 2 ^ 23) bits (sym (field bits 8 23)) s m e (ofBits-toBits binary32 (fin s m e) held)
+
+  -- n / 2 ^ 149 is m * 2 ^ e
+  pub exact : whole (toBits binary32 (fin s m e)) * down e ≡ m * up e * 2 ^ 149
+  exact = sym (fields .2)
+
+  -- the cell is the floor of m * 2 ^ e
+  pub cell-exact : cellOf (fin s m e) ≡ m * up e / down e
+  unfolding cellOf
+  cell-exact =
+      sym (mul-div-mul-right (whole (toBits binary32 (fin s m e))) (2 ^ 149) (down-pos e))
+      ∙ ap₂ (λ (a b : ℕ). a / b) exact (mul-comm (2 ^ 149) (down e))
+      ∙ mul-div-mul-right (m * up e) (down e) (pow-pos 149)
+
+  -- it is on the map where it has no sign and m * 2 ^ e is below the side
+  pub map-exact : (side : ℕ) → onMap side (fin s m e) ≡ (not s && ltb (m * up e) (side * down e))
+  unfolding onMap inRange isNan
+  map-exact side =
+      let bits = toBits binary32 (fin s m e) in
+      rw (lt-ltb _ _ (fields .1), not-le bits (2 ^ 31) s (sym (fields .0)), scaled (whole bits) (2 ^ 149) (m * up e) (down e) side (pow-pos 149) (down-pos e) exact)
+
+-- no NaN and no infinity is
+pub nan-off : (side : ℕ) → onMap side nan ≡ false
+unfolding onMap isNan
+nan-off side = refl
+
+pub infinity-off : (side : ℕ) (s : Bool) → onMap side (inf s) ≡ false
+unfolding onMap inRange isNan toBits
+infinity-off side true = refl
+infinity-off side false = refl

@@ -1,0 +1,107 @@
+// A float's cell (document 01, "Positions"): whether a coordinate is on the map, and in which cell.
+// Only a NaN is told apart as a float. The rest is worked out on the bits, in whole numbers.
+use squares::Shape;
+ghost use mathlib.Core.Path.{_≡_};
+ghost use mathlib.Core.Bool.{cond};
+ghost use Prim.Native.Nat.{_/_, _^_, _<_};
+ghost use lib.Ieee.{binary32, ofBits};
+ghost use Rattle.position.specs.Cell.{exponent, whole, inRange};
+ghost use Rattle.position.specs.Answer.{coordinateOn, spotOn};
+
+// Two coordinates kept together: x counts from the west wall, y from the south wall.
+pub struct Position {
+    pub x: f32,
+    pub y: f32,
+}
+
+// A coordinate is off the map, or in a cell.
+pub enum Coordinate {
+    Off,
+    Cell(u32),
+}
+
+// A position is off the map, or in a column and a row.
+pub enum Spot {
+    Off,
+    Cell(u32, u32),
+}
+
+// The column and the row of a position on the map of a town.
+pub fn locate(s: Shape, p: Position) -> Spot
+    ensures { λ r. ⌜ r ≡ spotOn s p ⌝ }
+{
+    if !s.allowed() {
+        return Spot::Off;
+    }
+    let Coordinate::Cell(column) = cell_of(p.x, s.width()) else {
+        return Spot::Off;
+    };
+    let Coordinate::Cell(row) = cell_of(p.y, s.height()) else {
+        return Spot::Off;
+    };
+    Spot::Cell(column, row)
+}
+
+// The float with these bits. A NaN has no bits of its own: all of their patterns give the one NaN.
+pub fn float_of(bits: u32) -> f32
+    ensures { λ r. ⌜ r ≡ ofBits binary32 bits ⌝ }
+{
+    if 0x7F80_0000 < bits % 0x8000_0000 {
+        return 0.0f32 / 0.0f32;
+    }
+    f32::from_bits(bits)
+}
+
+// The cell of any float, on any side. A NaN has no bits to ask for.
+pub fn cell_of(x: f32, side: u32) -> Coordinate
+    ensures { λ r. ⌜ r ≡ coordinateOn side x ⌝ }
+{
+    if x != x {
+        return Coordinate::Off;
+    }
+    cell_of_bits(f32::to_bits(x), side)
+}
+
+// The cell of the number with these bits.
+fn cell_of_bits(bits: u32, side: u32) -> Coordinate
+    ensures { λ r. ⌜ r ≡ cond (inRange side bits) (Coordinate.Cell (whole bits / 2 ^ 149)) Coordinate.Off ⌝ }
+{
+    // the sign bit
+    if 0x8000_0000 <= bits {
+        return Coordinate::Off;
+    }
+    // at least 2^32, or an infinity
+    if 159 <= exponent_of(bits) {
+        return Coordinate::Off;
+    }
+    let cell = floor(bits);
+    if cell < side {
+        Coordinate::Cell(cell)
+    } else {
+        Coordinate::Off
+    }
+}
+
+// The greatest whole number not above the value of these bits, sign bit apart. From exponent 127 on,
+// which is 1, the value is digits * 2^(e - 150).
+fn floor(bits: u32) -> u32
+    requires { ⌜ exponent bits < 159 ⌝ }
+    ensures { λ r. ⌜ r ≡ whole bits / 2 ^ 149 ⌝ }
+{
+    let e = exponent_of(bits);
+    if e < 127 {
+        return 0;
+    }
+    let digits = 0x80_0000 + bits % 0x80_0000;
+    if e < 150 {
+        digits >> (150 - e)
+    } else {
+        digits << (e - 150)
+    }
+}
+
+fn exponent_of(bits: u32) -> u32
+    ensures { λ r. ⌜ r ≡ exponent bits ⌝ }
+{
+    (bits >> 23) % 256
+}

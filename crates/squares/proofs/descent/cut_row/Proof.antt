@@ -1,0 +1,91 @@
+use Prim.Native.Nat.{_-_}
+use Rattle.order.specs.BufferLaws.{wrote-length}
+use Rattle.squares.specs.LoopLaws.{RowTurn, row-short, row-begins, row-room, row-turns, row-ends}
+use borrow.Author.Needs.{needs}
+use Rattle.squares.proofs.descent.cut_row.Statement.{statement}
+use Rattle.squares.proofs.descent.cut_row.Tie as tie
+
+abbrev Inv-loop : tie.InvT-loop
+Inv-loop s r level row out₀ at side end column₀ next₀ out column next = RowTurn s r level row out₀ out at next column
+
+abbrev μ-loop : tie.MeasureT-loop
+μ-loop s r level row out₀ at side end column₀ next₀ out column next = end - column
+
+side-requires : tie.Need-side-requires Inv-loop μ-loop
+side-requires c κs = c .before .pre .shape
+
+add-end : tie.Need-add-end Inv-loop μ-loop
+add-end c = search needs
+
+sub-end : tie.Need-sub-end Inv-loop μ-loop
+sub-end c = search needs
+
+div-end : tie.Need-div-end Inv-loop μ-loop
+div-end c = search needs
+
+add-end-2 : tie.Need-add-end-2 Inv-loop μ-loop
+add-end-2 c = let h = row-short (c .before .before .before .pre) (c .before .side .ensures) in search needs
+
+div-column : tie.Need-div-column Inv-loop μ-loop
+div-column c = search needs
+
+loop-holds : tie.Need-loop-holds Inv-loop μ-loop
+loop-holds c = row-begins (c .before .before .before .before .pre) (c .before .before .side .ensures) _
+
+mul-descend : tie.Need-mul-descend Inv-loop μ-loop
+mul-descend c = let h = row-room (c .before .before .before .before .before .before .pre) (c .before .before .before .before .side .ensures) (c .before .loop .inv) (c .loop-test .taken) in search needs
+
+mul-descend-2 : tie.Need-mul-descend-2 Inv-loop μ-loop
+mul-descend-2 c = let h = row-room (c .before .before .before .before .before .before .pre) (c .before .before .before .before .side .ensures) (c .before .loop .inv) (c .loop-test .taken) in search needs
+
+mul-descend-3 : tie.Need-mul-descend-3 Inv-loop μ-loop
+mul-descend-3 c = let h = row-room (c .before .before .before .before .before .before .before .pre) (c .before .before .before .before .before .side .ensures) (c .before .before .loop .inv) (c .before .loop-test .taken) in search needs
+
+add-descend : tie.Need-add-descend Inv-loop μ-loop
+add-descend c = let h = row-room (c .before .before .before .before .before .before .before .pre) (c .before .before .before .before .before .side .ensures) (c .before .before .loop .inv) (c .before .loop-test .taken) in search needs
+
+mul-descend-4 : tie.Need-mul-descend-4 Inv-loop μ-loop
+mul-descend-4 c = let h = row-room (c .before .before .before .before .before .before .before .pre) (c .before .before .before .before .before .side .ensures) (c .before .before .loop .inv) (c .before .loop-test .taken) in search needs
+
+descend-requires : tie.Need-descend-requires Inv-loop μ-loop
+descend-requires c κs = row-room (c .before .before .before .before .before .before .before .before .pre) (c .before .before .before .before .before .before .side .ensures) (c .before .before .before .loop .inv) (c .before .before .loop-test .taken)
+
+add-column : tie.Need-add-column Inv-loop μ-loop
+add-column c = let h = row-short (c .before .before .before .before .before .before .before .before .before .before .before .pre) (c .before .before .before .before .before .before .before .before .before .side .ensures) in search needs
+
+loop-less : tie.Need-loop-less Inv-loop μ-loop
+loop-less c = search needs
+
+loop-again : tie.Need-loop-again Inv-loop μ-loop
+loop-again c = row-turns (c .before .before .before .before .before .before .before .before .before .before .before .pre) (c .before .before .before .before .before .before .before .before .before .side .ensures) (c .before .before .before .before .before .before .loop .inv) (c .before .before .before .before .before .loop-test .taken) (c .before .before .descend .ensures)
+
+same-length : tie.Need-same-length Inv-loop μ-loop
+same-length c = wrote-length (c .before .loop .inv .wrote)
+
+returns : tie.Need-returns Inv-loop μ-loop
+returns c = row-ends (c .before .before .before .before .before .before .pre) (c .before .before .before .before .side .ensures) (c .before .loop .inv) (c .loop-test .left)
+
+pub cut-row-spec : {M : Type 1} → statement M
+cut-row-spec =
+    tie.close
+    (tie.spec
+    Inv-loop
+    μ-loop
+    side-requires
+    add-end
+    sub-end
+    div-end
+    add-end-2
+    div-column
+    loop-holds
+    mul-descend
+    mul-descend-2
+    mul-descend-3
+    add-descend
+    mul-descend-4
+    descend-requires
+    add-column
+    loop-less
+    loop-again
+    same-length
+    returns)

@@ -1,0 +1,38 @@
+use mathlib.Core.Path.{sym}
+use native.Mathlib.Omega.{arith}
+use Rattle.squares.specs.RectLaws.{Meets, →meets, not-meets}
+use borrow.Author.Needs.{needs}
+use Rattle.squares.proofs.shape.Rect.meets.Statement.{statement}
+use Rattle.squares.proofs.shape.Rect.meets.Tie as tie
+
+add-if1 : tie.Need-add-if1
+add-if1 c = search needs
+
+returns : tie.Need-returns
+returns c = let a = c .before .before .args in sym (not-meets (a .self) (a .x) (a .y) (a .d) (λ (h : Meets (a .self) (a .x) (a .y) (a .d)). omega arith))
+
+add-if2 : tie.Need-add-if2
+add-if2 c = search needs
+
+returns-2 : tie.Need-returns-2
+returns-2 c = let a = c .before .before .before .before .args in sym (not-meets (a .self) (a .x) (a .y) (a .d) (λ (h : Meets (a .self) (a .x) (a .y) (a .d)). omega arith))
+
+add-if3 : tie.Need-add-if3
+add-if3 c = search needs
+
+returns-3 : tie.Need-returns-3
+returns-3 c = let a = c .before .before .before .before .before .before .args in sym (not-meets (a .self) (a .x) (a .y) (a .d) (λ (h : Meets (a .self) (a .x) (a .y) (a .d)). omega arith))
+
+add-if4 : tie.Need-add-if4
+add-if4 c = search needs
+
+returns-4 : tie.Need-returns-4
+returns-4 c = let a = c .before .before .before .before .before .before .before .before .args in sym (not-meets (a .self) (a .x) (a .y) (a .d) (λ (h : Meets (a .self) (a .x) (a .y) (a .d)). omega arith))
+
+returns-5 : tie.Need-returns-5
+returns-5 c = let a = c .before .before .before .before .before .before .before .before .args in sym (→meets (a .self) (a .x) (a .y) (a .d) (omega arith))
+
+pub meets-spec : {M : Type 1} → statement M
+meets-spec =
+    tie.close
+    (tie.spec add-if1 returns add-if2 returns-2 add-if3 returns-3 add-if4 returns-4 returns-5)

@@ -1,0 +1,61 @@
+use Prim.Native.Nat.{_+_, _*_, _<_}
+use Rattle.squares.specs.ShapeLaws.{number-is, number-small}
+use borrow.Author.Needs.{needs}
+use Rattle.squares.proofs.shape.Shape.number.Statement.{statement}
+use Rattle.squares.proofs.shape.Shape.number.Tie as tie
+
+side-requires : tie.Need-side-requires
+side-requires c κs = search needs
+
+side-on-requires : tie.Need-side-on-requires
+side-on-requires c κs = search needs
+
+rem-interleaved : tie.Need-rem-interleaved
+rem-interleaved c = search needs
+
+div-interleaved : tie.Need-div-interleaved
+div-interleaved c = search needs
+
+rem-interleaved-2 : tie.Need-rem-interleaved-2
+rem-interleaved-2 c = search needs
+
+div-interleaved-2 : tie.Need-div-interleaved-2
+div-interleaved-2 c = search needs
+
+interleaved-requires : tie.Need-interleaved-requires
+interleaved-requires c κs = search needs
+
+four-to-requires : tie.Need-four-to-requires
+four-to-requires c κs = search needs
+
+block-requires : tie.Need-block-requires
+block-requires c κs = search needs
+
+small : (c : tie.After-block) → c .before .four-to .result * c .block .result + c .before .before .interleaved .result < 65536
+small c = number-small _ (c .before .before .before .before .before .pre .0 .shape) _ _ _ _ _ _ _ _ (c .before .before .before .before .before .pre .1 .level) (c .before .before .before .before .side .ensures) (c .before .before .before .side-on .ensures) (c .before .four-to .ensures) (c .block .ensures) (c .before .before .interleaved .ensures)
+
+mul-result : tie.Need-mul-result
+mul-result c = let h = small c in search needs
+
+add-result : tie.Need-add-result
+add-result c = let h = small c in search needs
+
+returns : tie.Need-returns
+returns c = number-is _ (c .before .before .before .before .before .pre .0 .shape) _ _ _ _ _ _ _ _ (c .before .before .before .before .before .pre .1 .level) (c .before .before .before .before .side .ensures) (c .before .before .before .side-on .ensures) (c .before .four-to .ensures) (c .block .ensures) (c .before .before .interleaved .ensures)
+
+pub number-spec : {M : Type 1} → statement M
+number-spec =
+    tie.close
+    (tie.spec
+    side-requires
+    side-on-requires
+    rem-interleaved
+    div-interleaved
+    rem-interleaved-2
+    div-interleaved-2
+    interleaved-requires
+    four-to-requires
+    block-requires
+    mul-result
+    add-result
+    returns)

@@ -1,0 +1,17 @@
+// A town's shape, its squares and their numbers, and the cut of a rectangle into squares.
+mod shape; // shape.rt: the shape, the rectangle, and what comes from them
+mod powers; // powers.rt: powers of two and four, bits interleaved and taken apart
+mod numbers; // numbers.rt: the number of a square and the square of a number
+mod descent; // descent.rt: the squares of a cut, level by level
+mod cut; // cut.rt: the cut of a rectangle into a lent buffer
+
+pub use cut::Cut;
+pub use cut::cut_rectangle;
+pub use numbers::Located;
+pub use numbers::Numbered;
+pub use numbers::Square;
+pub use numbers::locate_square;
+pub use numbers::number_square;
+pub use shape::Rect;
+pub use shape::Shape;
+pub use shape::Shaped;
