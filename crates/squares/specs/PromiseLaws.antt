@@ -1,7 +1,7 @@
 -- How a call keeps its promise: by the first test that fails, or by what it answers where none does.
-use Prim.Native.Nat.{ℕ, suc, _+_, _<_, _≤_}
+use Prim.Native.Nat.{ℕ, zero, suc, _+_, _<_, _≤_}
 use mathlib.Core.Path.{_≡_, refl, ap, sym, subst, _∙_}
-use mathlib.Core.Bool.{true, false}
+use mathlib.Core.Bool.{Bool, true, false}
 use mathlib.Core.List.{List, _++_}
 use native.Mathlib.Nat.{zero-add}
 use native.Mathlib.Omega.{arith}
@@ -18,10 +18,20 @@ use Rattle.squares.specs.declared.cut.Cut.{Cut}
 use Rattle.squares.specs.Shape.{allowed, fits}
 use Rattle.squares.specs.Squares.{number, squareOf, isCorner, squaresOn}
 use Rattle.squares.specs.Cut.{cut}
-use Rattle.squares.specs.Promises.{Numbers, numberRefusal, Locates, locateRefusal, Cuts, cutRefusal}
+use Rattle.squares.specs.Promises.{Numbers, numberRefusal, Locates, locateRefusal, Cuts, cutRefusal, unless}
 
-not-both : (n m : ℕ) → n ≡ suc m → n ≡ 0 → ⊥
+pub not-both : (n m : ℕ) → n ≡ suc m → n ≡ 0 → ⊥
 not-both n m e f = omega arith
+
+-- a call refuses or it does not
+pub by-refusal {ℓ} : {A : Type ℓ} (n : ℕ) → (n ≡ 0 → A) → ((n ≡ 0 → ⊥) → A) → A
+by-refusal zero f g = f refl
+by-refusal (suc n) f g = g (λ (e : suc n ≡ 0). omega arith)
+
+-- nothing refused: the test passed, and what comes after it refuses nothing
+pub unless→ : (b : Bool) (n rest : ℕ) → unless b (suc n) rest ≡ 0 → (b ≡ true) × (rest ≡ 0)
+unless→ true n rest e = (refl, e)
+unless→ false n rest e = absurd (omega arith)
 
 module _ (s : Shape) (i x y : ℕ) where
   pub numbers-refused : (n : ℕ) → numberRefusal s i x y ≡ suc n → Numbers s i x y (Numbered.Refused (suc n))

@@ -1,0 +1,59 @@
+-- What the records give afresh: the entries in use, where each square's list starts, the rosters.
+use Prim.Native.Nat.{ℕ, _+_, _-_, _*_, _/_, _%_, _^_}
+use mathlib.Core.Bool.{Bool, true, false, _&&_}
+use mathlib.Core.List.{List, _++_, map}
+use lib.Dec.{leb}
+use lib.ListN.{length, replicate}
+use Rattle.order.specs.Order.{upto, keep}
+use Rattle.squares.specs.declared.shape.Shape.{Shape}
+use Rattle.squares.specs.Squares.{squares}
+use Rattle.squares.specs.Cut.{inCut}
+use Rattle.tables.specs.Tables.{Tables, shapeOf, zoneRoom, carRoom, entryRoom, rectOf, stands, rosterHas}
+
+-- ---- places: all squares of a town in one row, level 0 first, rising number within a level
+
+-- how many squares lie on the levels above level i
+unfoldable pub before : Shape → ℕ → ℕ
+before s i = s .P * s .Q * (4 ^ i - 1) / 3
+
+abbrev pub place : Shape → ℕ → ℕ → ℕ
+place s i n = before s i + n
+
+-- the level of a place is how many of the levels 1 to k begin at it or before it
+unfoldable pub levelAt : Shape → ℕ → ℕ
+levelAt s p = length (keep (λ (i : ℕ). leb (before s (i + 1)) p) (upto (s .k)))
+
+abbrev pub numberAt : Shape → ℕ → ℕ
+numberAt s p = p - before s (levelAt s p)
+
+-- ---- entries: one zone on one square's list, as place × 256 + zone
+
+-- the zone stands, and the square is in the cut of its rectangle
+unfoldable pub on : Tables → ℕ → Bool
+on t key = stands t (key % 256) && inCut (shapeOf t) (rectOf t (key % 256)) (levelAt (shapeOf t) (key / 256)) (numberAt (shapeOf t) (key / 256))
+
+-- the keys of the squares below place p, lowest first
+abbrev pub keysTo : Tables → ℕ → List ℕ
+keysTo t p = keep (on t) (upto (p * 256))
+
+abbrev pub used : Tables → List ℕ
+used t = keysTo t (squares (shapeOf t))
+
+abbrev pub free : ℕ
+free = 4294967295
+
+abbrev pub entriesOf : Tables → List ℕ
+entriesOf t = used t ++ replicate (entryRoom t - length (used t)) free
+
+-- for each place, how many entries lie before it
+abbrev pub startsOf : Tables → List ℕ
+startsOf t = map (λ (p : ℕ). length (keysTo t p)) (upto (squares (shapeOf t) + 1))
+
+-- ---- rosters
+
+abbrev pub bit : Bool → ℕ
+bit true = 1
+bit false = 0
+
+abbrev pub rostersOf : Tables → List ℕ
+rostersOf t = map (λ (i : ℕ). bit (rosterHas t (i / carRoom t) (i % carRoom t))) (upto (zoneRoom t * carRoom t))

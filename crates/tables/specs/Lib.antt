@@ -1,0 +1,9 @@
+pub mod Tables
+pub mod Check
+pub mod Derived
+pub mod Sound
+pub mod PlaceLaws
+pub mod CheckLaws
+pub mod Rows
+pub mod RowLaws
+pub mod RecordLaws

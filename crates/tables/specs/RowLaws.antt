@@ -1,0 +1,83 @@
+-- Laws of a row of the rosters, of tables set to one number, and of what a sound roster says.
+use Prim.Native.Nat.{ℕ, zero, suc, _+_, _*_, _/_, _%_, _<_, _≤_}
+use mathlib.Core.Path.{_≡_, refl, ap, sym, _∙_}
+use mathlib.Core.Bool.{Bool, true, false}
+use mathlib.Core.List.{List, [], _∷_, _++_, append-nil, map}
+use native.Mathlib.Omega.{arith}
+use native.Mathlib.Nat.{add-zero, zero-add}
+use native.Mathlib.Numerals.{add-one}
+use lib.Arith.{digits-lt, digits-div, digits-mod}
+use lib.Dec.{ltb}
+use lib.ListN.{length, getD, drop, set, replicate, length-replicate, drop-of-length-le}
+use lib.Seq.{drop-cons, set-at, append-snoc}
+use borrow.Author.Tests.{lt-ltb, le-ltb}
+use Rattle.order.specs.Order.{span, upto, keep}
+use Rattle.order.specs.Buffer.{Wrote}
+use Rattle.order.specs.BufferLaws.{wrote-none, wrote-more}
+use Rattle.order.specs.KeepLaws.{span-add, keep-append, keep-ext, span→}
+use Rattle.tables.specs.Tables.{Tables, zoneRoom, carRoom, rosterHas}
+use Rattle.tables.specs.Derived.{bit}
+use Rattle.tables.specs.Sound.{Sound}
+use Rattle.tables.specs.Rows.{marked, row, Adds}
+
+-- ---- a list filled from the front
+
+module _ {A : Type 0} (v : A) where
+  replicate-snoc : (n : ℕ) → replicate n v ++ (v ∷ []) ≡ replicate (suc n) v
+  replicate-snoc zero = refl
+  replicate-snoc (suc n) = ap (λ (l : List A). v ∷ l) (replicate-snoc n)
+
+  fill-more : (d : List A) (n : ℕ) → n < length d → set (replicate n v ++ drop n d) n v ≡ replicate (n + 1) v ++ drop (n + 1) d
+  fill-more d n h = rw (add-one n, drop-cons d n v h, set-at (replicate n v) (getD d n v) (drop (suc n) d) v n (length-replicate n v)) (sym (append-snoc (replicate n v) v (drop (suc n) d)) ∙ ap (λ (l : List A). l ++ drop (suc n) d) (replicate-snoc n))
+
+  fill-end : (d : List A) (n : ℕ) → n ≤ length d → length d ≤ n → replicate n v ++ drop n d ≡ replicate (length d) v
+  fill-end d n h g = let e : n ≡ length d = omega arith in rw (e, drop-of-length-le d {i = length d} (omega arith)) (append-nil (replicate (length d) v))
+
+  pub fill-turn : (d l : List A) (n : ℕ) → l ≡ replicate n v ++ drop n d → n < length d → set l n v ≡ replicate (n + 1) v ++ drop (n + 1) d
+  fill-turn d l n e h = ap (λ (m : List A). set m n v) e ∙ fill-more d n h
+
+  pub fill-done : (d l : List A) (n : ℕ) → l ≡ replicate n v ++ drop n d → n ≤ length d → length d ≤ n → l ≡ replicate (length d) v
+  fill-done d l n e h g = e ∙ fill-end d n h g
+
+-- ---- one car more
+
+module _ (rosters : List ℕ) (from : ℕ) where
+  pub row-start : (b : List ℕ) → Wrote b b 0 0 (row rosters from 0)
+  unfolding span keep
+  row-start b = wrote-none b 0
+
+  row-more : (c : ℕ) → row rosters from (c + 1) ≡ row rosters from c ++ keep (marked rosters from) (c ∷ [])
+  unfolding span
+  row-more c = rw (span-add 0 c 1, keep-append) (ap (λ (n : ℕ). row rosters from c ++ keep (marked rosters from) (n ∷ [])) (omega arith))
+
+  pub row-turn : (c : ℕ) {b b′ b″ : List ℕ} {t t′ : ℕ} → Wrote b b′ 0 t (row rosters from c) → Adds (getD rosters (from + c) 0) c b′ b″ t t′ → Wrote b b″ 0 t′ (row rosters from (c + 1))
+  unfolding keep
+  row-turn c w a = rw (row-more c) (wrote-more w (a .wrote))
+
+pub adds-none : (byte c : ℕ) (b : List ℕ) (at : ℕ) → byte ≡ 0 → Adds byte c b b at at
+adds-none byte c b at e = record { wrote = rw (le-ltb 0 byte (omega arith)) (wrote-none b at); most = omega arith }
+
+pub adds-one : (byte c : ℕ) (b b′ : List ℕ) (at : ℕ) → (byte ≡ 0 → ⊥) → b′ ≡ set b at c → Adds byte c b b′ at (at + 1)
+adds-one byte c b b′ at f e = record { wrote = rw (lt-ltb 0 byte (omega arith)) (record { stored = e; next = refl }); most = omega arith }
+
+-- ---- sound rosters
+
+-- what stands in a mapped row of numbers
+pub map-span : {A : Type 0} (f : ℕ → A) (d : A) (lo n i : ℕ) → i < n → getD (map f (span lo n)) i d ≡ f (lo + i)
+unfolding span
+map-span f d lo zero i h = absurd (omega arith)
+map-span f d lo (suc n) zero h = ap f (sym (add-zero lo))
+map-span f d lo (suc n) (suc i) h = map-span f d (suc lo) n i (omega arith) ∙ ap f (omega arith)
+
+marked-bit : (b : Bool) → ltb 0 (bit b) ≡ b
+marked-bit true = refl
+marked-bit false = refl
+
+pub roster-byte : (t : Tables) → Sound t → (z c : ℕ) → z < zoneRoom t → c < carRoom t → getD (t .rosters) (z * carRoom t + c) 0 ≡ bit (rosterHas t z c)
+roster-byte t h z c g l =
+    ap (λ (l : List ℕ). getD l (z * carRoom t + c) 0) (h .rosters)
+    ∙ map-span (λ (i : ℕ). bit (rosterHas t (i / carRoom t) (i % carRoom t))) 0 0 (zoneRoom t * carRoom t) (z * carRoom t + c) (digits-lt g l)
+    ∙ rw (zero-add (z * carRoom t + c), digits-div z l, digits-mod z l)
+
+pub sound-row : (t : Tables) → Sound t → (z : ℕ) → z < zoneRoom t → row (t .rosters) (z * carRoom t) (carRoom t) ≡ keep (rosterHas t z) (upto (carRoom t))
+sound-row t h z g = keep-ext (marked (t .rosters) (z * carRoom t)) (rosterHas t z) (upto (carRoom t)) (λ c m. ap (ltb 0) (roster-byte t h z c g (omega (arith, span→ 0 (carRoom t) c m))) ∙ marked-bit (rosterHas t z c))

@@ -1,0 +1,80 @@
+// The records: the shape and the capacities, a zone and its rectangle, a car and its position.
+use position::Position;
+use squares::Rect;
+use squares::Shape;
+ghost use Prim.Native.Nat.{_+_, _*_, _<_, _≤_};
+ghost use mathlib.Core.Path.{_≡_};
+ghost use lib.ListN.{length, getD};
+ghost use Rattle.tables.specs.Tables.{shapeIn, rectIn, standsIn, placedIn, spotIn};
+
+pub fn shape_in(head: &[u32]) -> Shape
+    requires { ⌜ 3 ≤ length (now head) ⌝ }
+    ensures { λ r. ⌜ r ≡ shapeIn (now (head .entry)) ⌝ }
+{
+    Shape {
+        k: head[0],
+        P: head[1],
+        Q: head[2],
+    }
+}
+
+pub fn zone_room(head: &[u32]) -> u32
+    requires { ⌜ 6 ≤ length (now head) ⌝ }
+    ensures { λ r. ⌜ r ≡ getD (now (head .entry)) 3 0 ⌝ }
+{
+    head[3]
+}
+
+pub fn car_room(head: &[u32]) -> u32
+    requires { ⌜ 6 ≤ length (now head) ⌝ }
+    ensures { λ r. ⌜ r ≡ getD (now (head .entry)) 4 0 ⌝ }
+{
+    head[4]
+}
+
+pub fn entry_room(head: &[u32]) -> u32
+    requires { ⌜ 6 ≤ length (now head) ⌝ }
+    ensures { λ r. ⌜ r ≡ getD (now (head .entry)) 5 0 ⌝ }
+{
+    head[5]
+}
+
+pub fn rect_in(zones: &[u32], z: usize) -> Rect
+    requires { ⌜ 4 * z + 4 ≤ length (now zones) ⌝ }
+    ensures { λ r. ⌜ r ≡ rectIn (now (zones .entry)) z ⌝ }
+{
+    let at = 4 * z;
+    Rect {
+        a: zones[at],
+        b: zones[at + 1],
+        w: zones[at + 2],
+        h: zones[at + 3],
+    }
+}
+
+pub fn stands_in(zones: &[u32], z: usize) -> bool
+    requires { ⌜ 4 * z + 4 ≤ length (now zones) ⌝ }
+    ensures { λ r. ⌜ r ≡ standsIn (now (zones .entry)) z ⌝ }
+{
+    let w = rect_in(zones, z).w;
+    0 < w
+}
+
+pub fn placed_in(cars: &[u32], c: usize) -> bool
+    requires { ⌜ c < length (now cars) ⌝ }
+    ensures { λ r. ⌜ r ≡ placedIn (now (cars .entry)) c ⌝ }
+{
+    let car = cars[c];
+    0 < car
+}
+
+pub fn spot_in(spots: &[f32], c: usize) -> Position
+    requires { ⌜ 2 * c + 2 ≤ length (now spots) ⌝ }
+    ensures { λ r. ⌜ r ≡ spotIn (now (spots .entry)) c ⌝ }
+{
+    let at = 2 * c;
+    Position {
+        x: spots[at],
+        y: spots[at + 1],
+    }
+}

@@ -1,0 +1,4 @@
+pub mod Promises
+pub mod ReadLaws
+pub mod OpenLaws
+pub mod Unique

@@ -1,0 +1,121 @@
+-- What the calls on the tables promise. t is the tables at entry, t′ at exit, b and b′ a buffer.
+-- `refused` and `accepted` hold on any tables. Where `done` asks for sound tables, what an accepted call answers and
+-- writes on unsound ones is the documents' one gap.
+use Prim.Native.Nat.{ℕ, _+_, _*_}
+use mathlib.Core.Path.{_≡_}
+use mathlib.Core.List.{List, [], _∷_}
+use lib.Dec.{leb, ltb}
+use lib.Ieee.{binary32, ofBits, toBits}
+use lib.ListN.{length, replicate}
+use Rattle.order.specs.Order.{upto, keep, over}
+use Rattle.squares.specs.declared.shape.Shape.{Shape}
+use Rattle.squares.specs.Shape.{allowed}
+use Rattle.squares.specs.Squares.{squares}
+use Rattle.squares.specs.Promises.{unless, told}
+use Rattle.position.specs.declared.Position.{Position}
+use Rattle.position.specs.Answer.{onTown, columnOf, rowOf}
+use Rattle.tables.specs.Tables.{Tables, shapeOf, zoneRoom, carRoom, stands, placed, spotOf, zoneHolds, rosterHas}
+use Rattle.tables.specs.Check.{roomy, long, sized}
+use Rattle.tables.specs.Derived.{free}
+use Rattle.tables.specs.Sound.{Sound}
+use Rattle.town.specs.declared.answers.Opened.{Opened}
+use Rattle.town.specs.declared.answers.Traced.{Traced}
+use Rattle.town.specs.declared.answers.Judged.{Judged}
+use Rattle.town.specs.declared.answers.Searched.{Searched}
+use Rattle.town.specs.declared.answers.Listed.{Listed}
+
+-- ---- open
+
+unfoldable pub openRefusal : Shape → ℕ → ℕ → ℕ → Tables → ℕ
+openRefusal s Z C E t = unless (allowed s) 1 (unless (roomy Z C E) 2 (unless (long s Z C E t) 3 0))
+
+-- a town with no zone and no car
+abbrev pub emptyTown : Shape → ℕ → ℕ → ℕ → Tables
+emptyTown s Z C E = record {
+  head = s .k ∷ s .P ∷ s .Q ∷ Z ∷ C ∷ E ∷ [];
+  zones = replicate (4 * Z) 0;
+  cars = replicate C 0;
+  spots = replicate (2 * C) (ofBits binary32 0);
+  starts = replicate (squares s + 1) 0;
+  entries = replicate E free;
+  rosters = replicate (Z * C) 0;
+}
+
+abbrev pub openedSays : Opened → List ℕ
+openedSays (Opened.Refused n) = n ∷ []
+openedSays Opened.Done = 0 ∷ []
+
+pub record Opens (s : Shape) (Z C E : ℕ) (t t′ : Tables) (answer : Opened) : Type 0 where
+  pub refused : (openRefusal s Z C E t ≡ 0 → ⊥) → (answer ≡ Opened.Refused (openRefusal s Z C E t)) × (t′ ≡ t)
+  pub done : openRefusal s Z C E t ≡ 0 → (answer ≡ Opened.Done) × (t′ ≡ emptyTown s Z C E)
+  pub says : openedSays answer ≡ told (openRefusal s Z C E t) []
+
+-- ---- where a car is
+
+unfoldable pub traceRefusal : Tables → ℕ → ℕ
+traceRefusal t c = unless (sized t) 3 (unless (ltb c (carRoom t)) 5 (unless (placed t c) 8 0))
+
+abbrev pub tracedSays : Traced → List ℕ
+tracedSays (Traced.Refused n) = n ∷ 0 ∷ 0 ∷ []
+tracedSays (Traced.At p) = 0 ∷ toBits binary32 (p .x) ∷ toBits binary32 (p .y) ∷ []
+
+pub record Traces (t : Tables) (c : ℕ) (answer : Traced) : Type 0 where
+  pub refused : (traceRefusal t c ≡ 0 → ⊥) → answer ≡ Traced.Refused (traceRefusal t c)
+  pub done : traceRefusal t c ≡ 0 → answer ≡ Traced.At (spotOf t c)
+  pub says : tracedSays answer ≡ told (traceRefusal t c) (toBits binary32 (spotOf t c .x) ∷ toBits binary32 (spotOf t c .y) ∷ [])
+
+-- ---- soundness: yes is 1, no is 0
+
+unfoldable pub judgeRefusal : Tables → ℕ
+judgeRefusal t = unless (sized t) 3 0
+
+abbrev pub judgedSays : Judged → List ℕ
+judgedSays (Judged.Refused n) = n ∷ 0 ∷ []
+judgedSays Judged.Sound = 0 ∷ 1 ∷ []
+judgedSays Judged.Unsound = 0 ∷ 0 ∷ []
+
+pub record Judges (t : Tables) (answer : Judged) : Type 0 where
+  pub refused : (judgeRefusal t ≡ 0 → ⊥) → (answer ≡ Judged.Refused (judgeRefusal t)) × (judgedSays answer ≡ judgeRefusal t ∷ 0 ∷ [])
+  pub yes : judgeRefusal t ≡ 0 → Sound t → (answer ≡ Judged.Sound) × (judgedSays answer ≡ 0 ∷ 1 ∷ [])
+  pub no : judgeRefusal t ≡ 0 → (Sound t → ⊥) → (answer ≡ Judged.Unsound) × (judgedSays answer ≡ 0 ∷ 0 ∷ [])
+
+-- ---- search
+
+unfoldable pub searchRefusal : Tables → Position → ℕ → ℕ
+searchRefusal t p room = unless (sized t) 3 (unless (onTown (shapeOf t) p) 10 (unless (leb (zoneRoom t) room) 11 0))
+
+-- the standing zones that hold a cell, lowest first
+abbrev pub zonesAt : Tables → ℕ → ℕ → List ℕ
+zonesAt t x y = keep (λ (z : ℕ). zoneHolds t z x y) (upto (zoneRoom t))
+
+abbrev pub found : Tables → Position → List ℕ
+found t p = zonesAt t (columnOf (shapeOf t) p) (rowOf (shapeOf t) p)
+
+abbrev pub searchedSays : Searched → List ℕ
+searchedSays (Searched.Refused n) = n ∷ 0 ∷ 0 ∷ []
+searchedSays (Searched.Found squares zones) = 0 ∷ squares ∷ zones ∷ []
+
+pub record Searches (t : Tables) (p : Position) (b b′ : List ℕ) (answer : Searched) : Type 0 where
+  pub refused : (searchRefusal t p (length b) ≡ 0 → ⊥) → (answer ≡ Searched.Refused (searchRefusal t p (length b))) × (b′ ≡ b)
+  pub accepted : searchRefusal t p (length b) ≡ 0 → (n : ℕ) → answer ≡ Searched.Refused n → ⊥
+  pub done : searchRefusal t p (length b) ≡ 0 → Sound t → (answer ≡ Searched.Found (shapeOf t .k + 1) (length (found t p))) × (b′ ≡ over (found t p) b)
+  pub says : (searchRefusal t p (length b) ≡ 0 → Sound t) → searchedSays answer ≡ told (searchRefusal t p (length b)) ((shapeOf t .k + 1) ∷ length (found t p) ∷ [])
+
+-- ---- roster
+
+unfoldable pub listRefusal : Tables → ℕ → ℕ → ℕ
+listRefusal t z room = unless (sized t) 3 (unless (ltb z (zoneRoom t)) 4 (unless (stands t z) 7 (unless (leb (carRoom t) room) 11 0)))
+
+-- the cars of a zone's roster, lowest first
+abbrev pub roster : Tables → ℕ → List ℕ
+roster t z = keep (rosterHas t z) (upto (carRoom t))
+
+abbrev pub listedSays : Listed → List ℕ
+listedSays (Listed.Refused n) = n ∷ 0 ∷ []
+listedSays (Listed.Cars n) = 0 ∷ n ∷ []
+
+pub record Lists (t : Tables) (z : ℕ) (b b′ : List ℕ) (answer : Listed) : Type 0 where
+  pub refused : (listRefusal t z (length b) ≡ 0 → ⊥) → (answer ≡ Listed.Refused (listRefusal t z (length b))) × (b′ ≡ b)
+  pub accepted : listRefusal t z (length b) ≡ 0 → (n : ℕ) → answer ≡ Listed.Refused n → ⊥
+  pub done : listRefusal t z (length b) ≡ 0 → Sound t → (answer ≡ Listed.Cars (length (roster t z))) × (b′ ≡ over (roster t z) b)
+  pub says : (listRefusal t z (length b) ≡ 0 → Sound t) → listedSays answer ≡ told (listRefusal t z (length b)) (length (roster t z) ∷ [])

@@ -1,0 +1,22 @@
+-- Two outcomes that a promise allows from the same entry are the same; where the documents have their gap, on sound tables.
+use Prim.Native.Nat.{ℕ}
+use mathlib.Core.Path.{_≡_, sym, _∙_}
+use mathlib.Core.List.{List}
+use lib.ListN.{length}
+use Rattle.squares.specs.declared.shape.Shape.{Shape}
+use Rattle.squares.specs.PromiseLaws.{by-refusal}
+use Rattle.tables.specs.Tables.{Tables}
+use Rattle.tables.specs.Sound.{Sound}
+use Rattle.town.specs.declared.answers.Opened.{Opened}
+use Rattle.town.specs.declared.answers.Traced.{Traced}
+use Rattle.town.specs.declared.answers.Listed.{Listed}
+use Rattle.town.specs.Promises.{Opens, openRefusal, Traces, traceRefusal, Lists, listRefusal}
+
+pub opens-unique : {s : Shape} {Z C E : ℕ} {t u v : Tables} {x y : Opened} → Opens s Z C E t u x → Opens s Z C E t v y → (x ≡ y) × (u ≡ v)
+opens-unique {s} {Z} {C} {E} {t} p q = by-refusal (openRefusal s Z C E t) (λ e. (p .done e .0 ∙ sym (q .done e .0), p .done e .1 ∙ sym (q .done e .1))) (λ f. (p .refused f .0 ∙ sym (q .refused f .0), p .refused f .1 ∙ sym (q .refused f .1)))
+
+pub traces-unique : {t : Tables} {c : ℕ} {x y : Traced} → Traces t c x → Traces t c y → x ≡ y
+traces-unique {t} {c} p q = by-refusal (traceRefusal t c) (λ e. p .done e ∙ sym (q .done e)) (λ f. p .refused f ∙ sym (q .refused f))
+
+pub lists-unique : {t : Tables} {z : ℕ} {b c d : List ℕ} {x y : Listed} → (listRefusal t z (length b) ≡ 0 → Sound t) → Lists t z b c x → Lists t z b d y → (x ≡ y) × (c ≡ d)
+lists-unique {t} {z} {b} h p q = by-refusal (listRefusal t z (length b)) (λ e. (p .done e (h e) .0 ∙ sym (q .done e (h e) .0), p .done e (h e) .1 ∙ sym (q .done e (h e) .1))) (λ f. (p .refused f .0 ∙ sym (q .refused f .0), p .refused f .1 ∙ sym (q .refused f .1)))

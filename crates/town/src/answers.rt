@@ -1,0 +1,32 @@
+// What the calls answer: a refusal by its number, or what was asked for.
+use position::Position;
+
+pub enum Opened {
+    Refused(u32),
+    Done,
+}
+
+// Where a car is: its stored position.
+pub enum Traced {
+    Refused(u32),
+    At(Position),
+}
+
+// Whether the tables are sound.
+pub enum Judged {
+    Refused(u32),
+    Sound,
+    Unsound,
+}
+
+// How many squares were looked into, and how many zones were written.
+pub enum Searched {
+    Refused(u32),
+    Found(u32, usize),
+}
+
+// How many cars of a roster were written.
+pub enum Listed {
+    Refused(u32),
+    Cars(usize),
+}

@@ -1,0 +1,14 @@
+// The calls on a town's lent tables.
+mod answers; // answers.rt: what the calls answer
+mod open; // open.rt: an empty town
+mod trace; // trace.rt: where a car is
+mod roster; // roster.rt: the cars of a zone
+
+pub use answers::Judged;
+pub use answers::Listed;
+pub use answers::Opened;
+pub use answers::Searched;
+pub use answers::Traced;
+pub use open::open_town;
+pub use roster::list_roster;
+pub use trace::trace_car;
