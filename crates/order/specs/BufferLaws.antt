@@ -2,20 +2,21 @@
 use Prim.Native.Nat.{ℕ, zero, suc, _+_, _-_, _<_, _≤_}
 use mathlib.Core.Path.{_≡_, refl, ap, sym, subst, _∙_}
 use mathlib.Core.Logic.{⊎-elim}
-use mathlib.Core.Bool.{Bool, true, false, cond}
-use mathlib.Core.List.{List, [], _∷_, _++_, append-nil}
+use mathlib.Core.Bool.{Bool, true, false, cond, _||_, or-true}
+use mathlib.Core.List.{List, [], _∷_, _++_, append-nil, List·Memᴰ}
 use native.Mathlib.Numerals.{add-one}
 use native.Mathlib.Omega.{arith}
 use native.Mathlib.Nat.{add-zero, suc-add, zero-add}
-use lib.Dec.{ltb}
+use lib.Dec.{ltb, eqb}
 use lib.ListN.{length, getD, take, drop, set, length-append, length-drop, take-append-drop}
 use lib.Seq.{sets, sets-eq, length-sets, drop-cons, take-suc, set-at, length-take-le, take-at, drop-at, drop-drop, append-snoc, getD-at, drop-append-add, drop-length, take-take, getD-take}
 use borrow.Author.Tests.{lt-ltb, le-ltb}
 use borrow.Rule.Slice.PartMut.{midOf, putMid}
-use Rattle.order.specs.Order.{insert, over}
-use Rattle.order.specs.Buffer.{rank, Ranked, Put, Wrote}
-use Rattle.order.specs.TestLaws.{lt-or-eq-or-gt}
-use Rattle.order.specs.RisingLaws.{insert-below, insert-there, insert-above}
+use Rattle.order.specs.Order.{upto, keep, insert, over}
+use Rattle.order.specs.Buffer.{rank, Ranked, Put, Wrote, putIn}
+use Rattle.order.specs.TestLaws.{lt-or-le, lt-or-eq-or-gt}
+use Rattle.order.specs.KeepLaws.{keep→, keep-all, keep-full, length-span}
+use Rattle.order.specs.RisingLaws.{insert-below, insert-there, insert-above, insert-length, insert-keep}
 
 -- ---- an answer over a buffer
 
@@ -172,3 +173,50 @@ module _ (b : List ℕ) (n x : ℕ) (small : n ≤ length b) where
         let i : insert x (take n b) ≡ take at (take n b) ++ x ∷ drop at (take n b) = rw r at (insert-rank x (take n b) (rw r (λ (h : at < length (take n b)) (q : getD (take n b) at 0 ≡ x). g (omega (arith, shown)) (sym (getD-take n b at 0 (omega (arith, shown))) ∙ q)))) in
         let w = put-slide x b ys n at room rank-within e in
         record { written = rw (f, i) w; count = rw (f, i, length-append (take at (take n b)) (x ∷ drop at (take n b))) (omega (arith, ap length (take-append-drop at (take n b)), length-append (take at (take n b)) (drop at (take n b)), shown)) }
+
+-- ---- numbers put one by one
+
+pub put-length : (room x : ℕ) (l : List ℕ) → length l ≤ room → (length l ≤ length (putIn room x l)) × (length (putIn room x l) ≤ room)
+put-length room x l h = ⊎-elim
+    (λ (g : length l < room). let i = insert-length x l in rw (lt-ltb (length l) room g) (omega arith, omega arith))
+    (λ (g : room ≤ length l). rw (le-ltb (length l) room g) (omega arith, h))
+    (lt-or-le (length l) room)
+
+-- there is room for a number below Z that is not there
+pub put-keep : (room Z x : ℕ) (f : ℕ → Bool) → Z ≤ room → x < Z → putIn room x (keep f (upto Z)) ≡ keep (λ (z : ℕ). eqb z x || f z) (upto Z)
+put-keep room Z x f h g = ⊎-elim
+    (λ (l : length (keep f (upto Z)) < room). rw (lt-ltb (length (keep f (upto Z))) room l) (insert-keep f Z x g))
+    (λ (l : room ≤ length (keep f (upto Z))).
+    let e : keep f (upto Z) ≡ upto Z = keep-full f (upto Z) (omega (arith, length-span 0 Z)) in
+    rw (le-ltb (length (keep f (upto Z))) room l) (e ∙ sym (keep-all (λ (z : ℕ). eqb z x || f z) (upto Z) (λ z m. ap (λ (t : Bool). eqb z x || t) (keep→ f (upto Z) z (subst (λ (k : List ℕ). List·Memᴰ z k) (sym e) m) .1) ∙ or-true (eqb z x)))))
+    (lt-or-le (length (keep f (upto Z))) room)
+
+-- the buffer was b and is b′: its first n numbers are l, the rest is b's
+pub record Front (b b′ : List ℕ) (n : ℕ) (l : List ℕ) : Type 0 where
+  pub written : b′ ≡ over l b
+  pub count : n ≡ length l
+  pub within : length l ≤ length b
+
+pub front-none : (b : List ℕ) → Front b b 0 []
+front-none b = record { written = refl; count = refl; within = omega arith }
+
+pub front-taken : (n : ℕ) (b : List ℕ) → n ≤ length b → Front b b n (take n b)
+front-taken n b h =
+    let e = length-take-le n b h in
+    record { written = sym (ap (λ (m : ℕ). take n b ++ drop m b) e ∙ take-append-drop n b); count = sym e; within = omega arith }
+
+module _ {b b′ : List ℕ} {n : ℕ} {l : List ℕ} (f : Front b b′ n l) where
+  pub front-length : length b′ ≡ length b
+  front-length = ap length (f .written) ∙ length-over l b (f .within)
+
+  pub front-within : n ≤ length b′
+  front-within = omega (arith, f .count, f .within, front-length)
+
+  pub front-shown : take n b′ ≡ l
+  front-shown = rw (f .written, f .count) (take-over l b)
+
+  -- a number more
+  pub front-put : {b″ : List ℕ} {x r : ℕ} → Put b′ b″ n x r → Front b b″ r (putIn (length b) x l)
+  front-put {x = x} u =
+      let a = put-length (length b) x l (f .within) in
+      record { written = u .written ∙ rw (front-shown, front-length, f .written) (over-over (putIn (length b) x l) l b (a .0)); count = u .count ∙ rw (front-shown, front-length); within = a .1 }

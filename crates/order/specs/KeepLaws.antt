@@ -106,3 +106,13 @@ length-keep p (x ∷ l) = go (p x) (length-keep p l)
     go : (t : Bool) → length (keep p l) ≤ length l → length (cond t (x ∷ keep p l) (keep p l)) ≤ suc (length l)
     go true h = omega arith
     go false h = omega arith
+
+-- keeping as many as there are is keeping all
+pub keep-full : (f : ℕ → Bool) (l : List ℕ) → length l ≤ length (keep f l) → keep f l ≡ l
+unfolding keep
+keep-full f [] h = refl
+keep-full f (x ∷ l) h = go (f x) h (keep-full f l) (length-keep f l)
+  where
+    go : (t : Bool) → suc (length l) ≤ length (cond t (x ∷ keep f l) (keep f l)) → (length l ≤ length (keep f l) → keep f l ≡ l) → length (keep f l) ≤ length l → cond t (x ∷ keep f l) (keep f l) ≡ x ∷ l
+    go true g i k = ap (λ (m : List ℕ). x ∷ m) (i (omega arith))
+    go false g i k = absurd (omega arith)

@@ -1,11 +1,12 @@
 -- Laws of rising lists: equal by their members, and what insertion and removal do.
-use Prim.Native.Nat.{ℕ, zero, suc, _<_}
+use Prim.Native.Nat.{ℕ, zero, suc, _<_, _≤_}
 use mathlib.Core.Path.{_≡_, refl, ap, sym, _∙_}
 use mathlib.Core.Logic.{_⊎_, inl, inr, ⊎-elim}
 use mathlib.Core.Bool.{Bool, true, false, cond, not, _&&_, _||_, or-true}
 use mathlib.Core.List.{List, [], _∷_, List·Memᴰ, List·Memᴰ·head, List·Memᴰ·tail, List·Memᴰ·cases-cons, List·Memᴰ·not-nil}
 use native.Mathlib.Omega.{arith}
 use lib.Dec.{eqb}
+use lib.ListN.{length, getD}
 use borrow.Author.Tests.{lt-ltb, le-ltb, eq-eqb, ne-eqb}
 use Rattle.order.specs.Order.{span, upto, keep, Rising, none, more, insert, remove}
 use Rattle.order.specs.TestLaws.{lt-or-eq-or-gt}
@@ -94,6 +95,17 @@ rising-insert x (y ∷ ys) (more h r) = ⊎-elim
     (λ (b : y < x). rw (insert-above x y ys b) (more {x = y} (λ z m. ⊎-elim (λ (e : z ≡ x). omega arith) (h z) (insert→ x ys z m)) (rising-insert x ys r))))
     (lt-or-eq-or-gt x y)
 
+-- how long a list is with one number more
+pub insert-length : (x : ℕ) (l : List ℕ) → (length l ≤ length (insert x l)) × (length (insert x l) ≤ suc (length l))
+unfolding insert
+insert-length x [] = (omega arith, omega arith)
+insert-length x (y ∷ ys) = ⊎-elim
+    (λ (h : x < y). rw (insert-below x y ys h) (omega arith, omega arith))
+    (⊎-elim
+    (λ (e : x ≡ y). rw (e, insert-there y ys) (omega arith, omega arith))
+    (λ (h : y < x). let g = insert-length x ys in rw (insert-above x y ys h) (omega arith, omega arith)))
+    (lt-or-eq-or-gt x y)
+
 -- inserting a number below n into those below n with p
 pub insert-keep : (p : ℕ → Bool) (n x : ℕ) → x < n → insert x (keep p (upto n)) ≡ keep (λ (y : ℕ). eqb y x || p y) (upto n)
 insert-keep p n x h = rising-is-keep (λ (y : ℕ). eqb y x || p y) n (insert x (keep p (upto n))) (rising-insert x (keep p (upto n)) (rising-keep p (upto n) (rising-span 0 n)))
@@ -106,3 +118,61 @@ insert-keep p n x h = rising-is-keep (λ (y : ℕ). eqb y x || p y) n (insert x 
 -- taking a number out of those below n with p
 pub remove-keep : (p : ℕ → Bool) (n x : ℕ) → remove x (keep p (upto n)) ≡ keep (λ (y : ℕ). p y && not (eqb y x)) (upto n)
 remove-keep p n x = keep-keep (λ (y : ℕ). not (eqb y x)) p (upto n)
+
+-- ---- members by their index
+
+pub member-at : (l : List ℕ) (i : ℕ) → i < length l → List·Memᴰ (getD l i 0) l
+member-at [] i h = absurd (omega arith)
+member-at (x ∷ l) zero h = List·Memᴰ·head refl
+member-at (x ∷ l) (suc i) h = List·Memᴰ·tail (member-at l i (omega arith))
+
+pub index-of : (l : List ℕ) (x : ℕ) → List·Memᴰ x l → (i : ℕ) × (i < length l) × (getD l i 0 ≡ x)
+index-of [] x m = absurd (List·Memᴰ·not-nil m)
+index-of (y ∷ l) x m = ⊎-elim (λ (e : x ≡ y). (0, omega arith, sym e)) (λ (n : List·Memᴰ x l). let a = index-of l x n in (suc (a .0), omega arith, a .2)) (List·Memᴰ·cases-cons m)
+
+-- a rising list rises from each number to the next, and a list that does so is rising
+pub rising-next : {l : List ℕ} → Rising l → (i : ℕ) → suc i < length l → getD l i 0 < getD l (suc i) 0
+rising-next none i h = absurd (omega arith)
+rising-next (more {xs = xs} f r) zero h = f (getD xs 0 0) (member-at xs 0 (omega arith))
+rising-next (more {xs = xs} f r) (suc i) h = rising-next r i (omega arith)
+
+pub →rising : (l : List ℕ) → ((i : ℕ) → suc i < length l → getD l i 0 < getD l (suc i) 0) → Rising l
+→rising [] f = none
+→rising (x ∷ []) f = more (λ y m. absurd (List·Memᴰ·not-nil m)) none
+→rising (x ∷ (y ∷ l)) f =
+    let rest = →rising (y ∷ l) (λ i h. f (suc i) (omega arith)) in
+    more {x = x} (λ z m. ⊎-elim (λ (e : z ≡ y). omega (arith, f 0 (omega arith))) (λ (n : List·Memᴰ z l). omega (arith, f 0 (omega arith), head-below rest z n)) (List·Memᴰ·cases-cons m)) rest
+  where
+    head-below : {a : ℕ} {l : List ℕ} → Rising (a ∷ l) → (b : ℕ) → List·Memᴰ b l → a < b
+    head-below (more g s) = g
+
+-- ---- a rising list with the full count
+
+-- a rising list within another is no longer
+pub rising-within : {l m : List ℕ} → Rising l → Rising m → ((x : ℕ) → List·Memᴰ x l → List·Memᴰ x m) → length l ≤ length m
+rising-within none s f = omega arith
+rising-within (more {x = x} h r) none f = absurd (List·Memᴰ·not-nil (f x (List·Memᴰ·head refl)))
+rising-within (more {x = x} {xs = xs} h r) (more {x = y} {xs = ys} k s) f = ⊎-elim
+    (λ (e : x ≡ y). let b : length xs ≤ length ys = rising-within r s (λ z m. ⊎-elim (λ (q : z ≡ y). absurd (omega (arith, h z m))) (λ (n : List·Memᴰ z ys). n) (List·Memᴰ·cases-cons (f z (List·Memᴰ·tail m)))) in omega arith)
+    (λ (n : List·Memᴰ x ys). let b : length (x ∷ xs) ≤ length ys = rising-within (more h r) s (later n) in omega arith)
+    (List·Memᴰ·cases-cons (f x (List·Memᴰ·head refl)))
+  where
+    later : List·Memᴰ x ys → (z : ℕ) → List·Memᴰ z (x ∷ xs) → List·Memᴰ z ys
+    later n z m = ⊎-elim (λ (q : z ≡ y). ⊎-elim (λ (e : z ≡ x). absurd (omega (arith, k x n))) (λ (g : List·Memᴰ z xs). absurd (omega (arith, k x n, h z g))) (List·Memᴰ·cases-cons m)) (λ (g : List·Memᴰ z ys). g) (List·Memᴰ·cases-cons (f z m))
+
+-- and one that is as long is the whole
+pub rising-whole : {l m : List ℕ} → Rising l → Rising m → ((x : ℕ) → List·Memᴰ x l → List·Memᴰ x m) → length l ≡ length m → l ≡ m
+rising-whole none none f e = refl
+rising-whole none (more h s) f e = absurd (omega arith)
+rising-whole (more {x = x} h r) none f e = absurd (omega arith)
+rising-whole (more {x = x} {xs = xs} h r) (more {x = y} {xs = ys} k s) f e = ⊎-elim
+    (λ (q : x ≡ y). rw q (ap (λ (t : List ℕ). y ∷ t) (rising-whole r s (λ z m. ⊎-elim (λ (p : z ≡ y). absurd (omega (arith, h z m))) (λ (n : List·Memᴰ z ys). n) (List·Memᴰ·cases-cons (f z (List·Memᴰ·tail m)))) (omega arith))))
+    (λ (n : List·Memᴰ x ys). let b : length (x ∷ xs) ≤ length ys = rising-within (more h r) s (later n) in absurd (omega arith))
+    (List·Memᴰ·cases-cons (f x (List·Memᴰ·head refl)))
+  where
+    later : List·Memᴰ x ys → (z : ℕ) → List·Memᴰ z (x ∷ xs) → List·Memᴰ z ys
+    later n z m = ⊎-elim (λ (q : z ≡ y). ⊎-elim (λ (p : z ≡ x). absurd (omega (arith, k x n))) (λ (g : List·Memᴰ z xs). absurd (omega (arith, k x n, h z g))) (List·Memᴰ·cases-cons m)) (λ (g : List·Memᴰ z ys). g) (List·Memᴰ·cases-cons (f z m))
+
+-- a rising list of numbers below n with p, as many as there are, is all of them
+pub full-count : (p : ℕ → Bool) (n : ℕ) (l : List ℕ) → Rising l → ((x : ℕ) → List·Memᴰ x l → (x < n) × (p x ≡ true)) → length l ≡ length (keep p (upto n)) → l ≡ keep p (upto n)
+full-count p n l r f e = rising-whole r (rising-keep p (upto n) (rising-span 0 n)) (λ x m. →keep p (upto n) x (→span 0 n x (omega arith) (omega (arith, f x m))) (f x m .1)) e

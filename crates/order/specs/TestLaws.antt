@@ -1,6 +1,6 @@
 -- Laws of tests on numbers: one of two ways, and what a passed or failed test says.
 use Prim.Native.Nat.{ℕ, _<_, _≤_}
-use mathlib.Core.Path.{_≡_, refl}
+use mathlib.Core.Path.{_≡_, refl, sym}
 use mathlib.Core.Logic.{_⊎_, inl, inr, ⊎-elim}
 use mathlib.Core.Bool.{Bool, true, false, _&&_}
 use native.Mathlib.Omega.{arith}
@@ -32,3 +32,8 @@ and→ false b e = absurd (true-not-false false e refl)
 -- a test that cannot pass fails
 pub fails : (t : Bool) → (t ≡ true → ⊥) → t ≡ false
 fails t f = ⊎-elim (λ (e : t ≡ true). absurd (f e)) (λ (e : t ≡ false). e) (true-or-false t)
+
+-- two tests that pass together are one
+pub both-ways : (a b : Bool) → (a ≡ true → b ≡ true) → (b ≡ true → a ≡ true) → a ≡ b
+both-ways true b f g = sym (f refl)
+both-ways false b f g = sym (fails b (λ (e : b ≡ true). true-not-false false (g e) refl))

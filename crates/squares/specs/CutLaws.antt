@@ -1,5 +1,5 @@
 -- Laws of the cut of a rectangle.
-use Prim.Native.Nat.{ℕ, zero, suc, _+_, _-_, _*_, _/_, _%_, _<_, _≤_}
+use Prim.Native.Nat.{ℕ, zero, suc, _+_, _-_, _*_, _/_, _%_, _^_, _<_, _≤_}
 use mathlib.Core.Path.{_≡_, refl, ap, ap₂, sym, _∙_}
 use mathlib.Core.Logic.{_↔_, ⊎-elim}
 use mathlib.Core.Bool.{true, false, not}
@@ -7,20 +7,23 @@ use mathlib.Core.List.{List, [], _∷_, map, List·Memᴰ, List·Memᴰ·head, L
 use native.Mathlib.Omega.{arith}
 use native.Mathlib.Numerals.{add-one}
 use native.Mathlib.Nat.{sub-self, div-one, mul-one, suc-add, zero-add}
+use lib.ListN.{length, length-append, length-map}
 use lib.Pow.{pow-pos}
 use borrow.Author.Tests.{not-true}
 use Rattle.order.specs.Order.{upto, keep}
 use Rattle.order.specs.TestLaws.{lt-or-le, lt-or-eq-or-gt, true-or-false, true-not-false, and→, fails}
-use Rattle.order.specs.KeepLaws.{span→, →span, keep→, →keep}
+use Rattle.order.specs.KeepLaws.{span→, →span, keep→, →keep, length-keep, length-span}
 use Rattle.squares.specs.declared.shape.Shape.{Shape}
 use Rattle.squares.specs.declared.shape.Rect.{Rect}
 use Rattle.squares.specs.Shape.{Allowed, width, height}
-use Rattle.squares.specs.Squares.{sideOn, squaresOn, number, cornerX, cornerY}
+use Rattle.squares.specs.Squares.{sideOn, squaresOn, squares, number, cornerX, cornerY}
 use Rattle.squares.specs.Cut.{holds, inside, inCut, code, cutOn, cutTo, cut}
-use Rattle.squares.specs.SquareLaws.{corner-number-x, corner-number-y, number-corner, number-parent, in-square, corner-x-fits, corner-y-fits}
+use Rattle.squares.specs.PowerLaws.{four-pos, four-small}
+use Rattle.squares.specs.SquareLaws.{squaresTo, count-squares, corner-number-x, corner-number-y, number-corner, number-parent, in-square, corner-x-fits, corner-y-fits}
 use Rattle.squares.specs.CornerLaws.{side-halves, child-x, child-y}
 use Rattle.squares.specs.RectLaws.{Within, quarter-within, holds→, →holds, within→, →within}
-use Rattle.squares.specs.ShapeLaws.{squares-small}
+use Rattle.squares.specs.Leaves.{Counted}
+use Rattle.squares.specs.ShapeLaws.{squares-small, squares-is}
 
 -- ---- inside
 
@@ -180,3 +183,20 @@ cut-member s r i n w h g = (to, λ e. →cut s r i n h g e)
         let a = cut→ s r (code i n) m in
         let e = code-same i n (a .0) (a .1) (omega (arith, squares-small s w i h)) (omega (arith, squares-small s w (a .0) (a .2))) (a .5) in
         ap₂ (inCut s r) (e .0) (e .1) ∙ a .4
+
+-- ---- how many squares a cut has
+
+pub length-cut-on : (s : Shape) (r : Rect) (i : ℕ) → length (cutOn s r i) ≡ length (keep (inCut s r i) (upto (squaresOn s i)))
+length-cut-on s r i = length-map (keep (inCut s r i) (upto (squaresOn s i))) (code i)
+
+pub length-cut-to : (s : Shape) (r : Rect) (m : ℕ) → length (cutTo s r m) ≤ squaresTo s m
+unfolding cutTo squaresTo
+length-cut-to s r zero = omega arith
+length-cut-to s r (suc m) = rw (length-append (cutTo s r m) (cutOn s r m), length-cut-on s r m) (omega (arith, length-cut-to s r m, length-keep (inCut s r m) (upto (squaresOn s m)), length-span 0 (squaresOn s m)))
+
+-- no more than the town has squares
+pub count-few : (s : Shape) (r : Rect) (t : ℕ) → Allowed s → t ≡ length (cut s r) → Counted s r t
+count-few s r t h e =
+    let many = squares-is s h (4 ^ (s .k + 1)) (record { is = refl; some = four-pos (s .k + 1); small = four-small (s .k + 1) 6 (omega (arith, h .levels)) }) .1 .small in
+    let all : squaresTo s (suc (s .k)) ≡ squares s = ap (squaresTo s) (sym (add-one (s .k))) ∙ count-squares s in
+    record { is = e; few = omega (arith, length-cut-to s r (suc (s .k)), many, all) }

@@ -2,6 +2,7 @@
 use Prim.Native.Nat.{ℕ, suc, _+_, _*_, _^_, _<_, _≤_}
 use mathlib.Core.Path.{_≡_}
 use mathlib.Core.List.{List, map}
+use lib.ListN.{length}
 use Rattle.order.specs.Buffer.{Wrote}
 use Rattle.squares.specs.declared.shape.Shape.{Shape}
 use Rattle.squares.specs.declared.shape.Rect.{Rect}
@@ -74,3 +75,8 @@ pub record AllRoom (s : Shape) (r : Rect) : Type 0 where
 
 pub record AllStores (s : Shape) (r : Rect) (b b′ : List ℕ) (t : ℕ) : Type 0 where
   pub wrote : Wrote b b′ 0 t (cut s r)
+
+-- how many squares a cut has
+pub record Counted (s : Shape) (r : Rect) (t : ℕ) : Type 0 where
+  pub is : t ≡ length (cut s r)
+  pub few : t ≤ 87381

@@ -2,6 +2,7 @@
 use crate::descent::cut_levels;
 use crate::shape::Rect;
 use crate::shape::Shape;
+ghost use Rattle.squares.specs.Leaves.{AllRoom, Counted};
 ghost use Rattle.squares.specs.Promises.{Cuts};
 
 pub enum Cut {
@@ -26,4 +27,13 @@ pub fn cut_rectangle(s: Shape, r: Rect, out: &mut [u32]) -> Cut
         return Cut::Refused(11);
     }
     Cut::Listed(cut_levels(s, r, out))
+}
+
+// How many squares the cut has, with nothing written.
+pub fn cut_count(s: Shape, r: Rect) -> usize
+    requires { ⌜ AllRoom s r ⌝ }
+    ensures { λ t. ⌜ Counted s r t ⌝ }
+{
+    let mut room = [0u32; 1];
+    cut_levels(s, r, &mut room)
 }

@@ -6,6 +6,7 @@ mod descent; // descent.rt: the squares of a cut, level by level
 mod cut; // cut.rt: the cut of a rectangle into a lent buffer
 
 pub use cut::Cut;
+pub use cut::cut_count;
 pub use cut::cut_rectangle;
 pub use numbers::Located;
 pub use numbers::Numbered;

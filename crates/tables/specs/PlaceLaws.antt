@@ -1,11 +1,11 @@
 -- Laws of places: each square of the town has one, and a place tells its square.
-use Prim.Native.Nat.{ℕ, zero, suc, _+_, _-_, _<_, _≤_}
+use Prim.Native.Nat.{ℕ, zero, suc, _+_, _-_, _*_, _/_, _^_, _<_, _≤_}
 use mathlib.Core.Path.{_≡_, ap, sym, _∙_}
 use mathlib.Core.Bool.{Bool}
 use mathlib.Core.Logic.{⊎-elim}
 use mathlib.Core.List.{append-nil}
 use native.Mathlib.Omega.{arith}
-use native.Mathlib.Nat.{add-zero, add-suc}
+use native.Mathlib.Nat.{add-zero, add-suc, mul-sub, mul-one, le-mul-of-pos-right}
 use native.Mathlib.Numerals.{add-one}
 use lib.Dec.{leb}
 use lib.ListN.{length}
@@ -15,6 +15,9 @@ use Rattle.order.specs.TestLaws.{lt-or-le}
 use Rattle.order.specs.KeepLaws.{span-add, keep-append, keep-all, keep-none, span→, length-span}
 use Rattle.squares.specs.declared.shape.Shape.{Shape}
 use Rattle.squares.specs.Squares.{squares, squaresOn}
+use Rattle.squares.specs.Leaves.{Positive, Below, OnLevel}
+use Rattle.squares.specs.PowerLaws.{four-pos}
+use Rattle.squares.specs.ShapeLaws.{blocks-small}
 use Rattle.squares.specs.SquareLaws.{squaresTo, count-to}
 use Rattle.tables.specs.Derived.{before, place, levelAt, numberAt}
 
@@ -77,3 +80,18 @@ placed-at s p h = go (s .k) (omega arith) (rw (before-all s) h)
     go : (m : ℕ) → m ≤ s .k → p < before s (suc m) → Placed s p
     go zero l f = found 0 l (omega (arith, before-none s)) f
     go (suc m) l f = ⊎-elim (λ (b : p < before s (suc m)). go m (omega arith) b) (λ (b : before s (suc m) ≤ p). found (suc m) l b f) (lt-or-le p (before s (suc m)))
+
+-- ---- a place worked out from the count r of the level's squares
+
+module _ {s : Shape} {i r : ℕ} (level : OnLevel s i) (p : Positive (squaresOn s i) 65536 r) where
+  pub blocks-few : s .P * s .Q ≤ 65536
+  blocks-few = blocks-small s (level .shape)
+
+  pub blocks-within : s .P * s .Q ≤ r
+  blocks-within = rw (p .is) (le-mul-of-pos-right (s .P * s .Q) (four-pos i))
+
+  pub place-is : (n : ℕ) → n < squaresOn s i → Below (place s i n) (squares s) ((r - s .P * s .Q) / 3 + n)
+  unfolding before
+  place-is n h =
+      let e : (r - s .P * s .Q) / 3 + n ≡ place s i n = rw (p .is, mul-sub (s .P * s .Q) (4 ^ i) 1, mul-one (s .P * s .Q)) in
+      record { is = e; below = rw e (place-below s i n (level .level) h) }

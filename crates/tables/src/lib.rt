@@ -1,15 +1,25 @@
-// The lent tables: the functions that read and write one table, and the check of their lengths.
-mod check; // check.rt: checks 2 and 3
-mod fill; // fill.rt: a whole table set to one number
-mod rosters; // rosters.rt: a row of the rosters
+// The lent tables: the functions that read and write one table, the check of their lengths, and soundness.
+mod lengths; // lengths.rt: checks 2 and 3
 mod records; // records.rt: the shape and the capacities, a zone's rectangle, a car's position
+mod fill; // fill.rt: a whole table set to one number
+mod places; // places.rt: a square's place among all squares
+mod entry; // entry.rt: an entry's key
+mod runs; // runs.rt: the zones on a square's list
+mod rosters; // rosters.rt: a row of the rosters
+mod lists; // lists.rt: the squares' lists, checked
+mod sweep; // sweep.rt: soundness
 
-pub use check::long;
-pub use check::roomy;
-pub use check::sized;
+pub use entry::Leveled;
+pub use entry::in_cut;
+pub use entry::key_right;
+pub use entry::square_at;
 pub use fill::fill_bytes;
 pub use fill::fill_floats;
 pub use fill::fill_words;
+pub use lengths::long;
+pub use lengths::roomy;
+pub use lengths::sized;
+pub use places::place_of;
 pub use records::car_room;
 pub use records::entry_room;
 pub use records::placed_in;
@@ -19,3 +29,5 @@ pub use records::spot_in;
 pub use records::stands_in;
 pub use records::zone_room;
 pub use rosters::list_cars;
+pub use runs::gather;
+pub use sweep::sound;

@@ -5,12 +5,14 @@ use mathlib.Core.List.{List}
 use lib.ListN.{length}
 use Rattle.squares.specs.declared.shape.Shape.{Shape}
 use Rattle.squares.specs.PromiseLaws.{by-refusal}
+use Rattle.position.specs.declared.Position.{Position}
 use Rattle.tables.specs.Tables.{Tables}
 use Rattle.tables.specs.Sound.{Sound}
 use Rattle.town.specs.declared.answers.Opened.{Opened}
 use Rattle.town.specs.declared.answers.Traced.{Traced}
+use Rattle.town.specs.declared.answers.Searched.{Searched}
 use Rattle.town.specs.declared.answers.Listed.{Listed}
-use Rattle.town.specs.Promises.{Opens, openRefusal, Traces, traceRefusal, Lists, listRefusal}
+use Rattle.town.specs.Promises.{Opens, openRefusal, Traces, traceRefusal, Searches, searchRefusal, Lists, listRefusal}
 
 pub opens-unique : {s : Shape} {Z C E : ℕ} {t u v : Tables} {x y : Opened} → Opens s Z C E t u x → Opens s Z C E t v y → (x ≡ y) × (u ≡ v)
 opens-unique {s} {Z} {C} {E} {t} p q = by-refusal (openRefusal s Z C E t) (λ e. (p .done e .0 ∙ sym (q .done e .0), p .done e .1 ∙ sym (q .done e .1))) (λ f. (p .refused f .0 ∙ sym (q .refused f .0), p .refused f .1 ∙ sym (q .refused f .1)))
@@ -20,3 +22,6 @@ traces-unique {t} {c} p q = by-refusal (traceRefusal t c) (λ e. p .done e ∙ s
 
 pub lists-unique : {t : Tables} {z : ℕ} {b c d : List ℕ} {x y : Listed} → (listRefusal t z (length b) ≡ 0 → Sound t) → Lists t z b c x → Lists t z b d y → (x ≡ y) × (c ≡ d)
 lists-unique {t} {z} {b} h p q = by-refusal (listRefusal t z (length b)) (λ e. (p .done e (h e) .0 ∙ sym (q .done e (h e) .0), p .done e (h e) .1 ∙ sym (q .done e (h e) .1))) (λ f. (p .refused f .0 ∙ sym (q .refused f .0), p .refused f .1 ∙ sym (q .refused f .1)))
+
+pub searches-unique : {t : Tables} {p : Position} {b c d : List ℕ} {x y : Searched} → (searchRefusal t p (length b) ≡ 0 → Sound t) → Searches t p b c x → Searches t p b d y → (x ≡ y) × (c ≡ d)
+searches-unique {t} {p} {b} h u v = by-refusal (searchRefusal t p (length b)) (λ e. (u .done e (h e) .0 ∙ sym (v .done e (h e) .0), u .done e (h e) .1 ∙ sym (v .done e (h e) .1))) (λ f. (u .refused f .0 ∙ sym (v .refused f .0), u .refused f .1 ∙ sym (v .refused f .1)))

@@ -7,8 +7,8 @@ use Rattle.tables.specs.Tables.{Tables, tables, shapeOf, zoneRoom, carRo
 use Rattle.tables.specs.Check.{Sized, roomy}
 use Rattle.tables.specs.CheckLaws.{not-sized, sized-shape, sized-room, sized-long, roomy→, roomy-same, long-same}
 use borrow.Author.Needs.{needs}
-use Rattle.tables.proofs.check.sized.Statement.{statement}
-use Rattle.tables.proofs.check.sized.Tie as tie
+use Rattle.tables.proofs.lengths.sized.Statement.{statement}
+use Rattle.tables.proofs.lengths.sized.Tie as tie
 
 abbrev whole : tie.Start → Tables
 whole c = tables (c .args .head .now) (c .args .zones .now) (c .args .cars .now) (c .args .spots .now) (c .args .starts .now) (c .args .entries .now) (c .args .rosters .now)

@@ -5,8 +5,8 @@ use Rattle.tables.specs.Tables.{Tables, tables}
 use Rattle.tables.specs.Check.{Long}
 use Rattle.tables.specs.CheckLaws.{→long, not-long}
 use borrow.Author.Needs.{needs}
-use Rattle.tables.proofs.check.long.Statement.{statement}
-use Rattle.tables.proofs.check.long.Tie as tie
+use Rattle.tables.proofs.lengths.long.Statement.{statement}
+use Rattle.tables.proofs.lengths.long.Tie as tie
 
 abbrev whole : tie.Start → Tables
 whole c = tables (c .args .head .now) (c .args .zones .now) (c .args .cars .now) (c .args .spots .now) (c .args .starts .now) (c .args .entries .now) (c .args .rosters .now)

@@ -2,8 +2,8 @@ use mathlib.Core.Path.{sym}
 use native.Mathlib.Omega.{arith}
 use Rattle.tables.specs.Check.{Roomy}
 use Rattle.tables.specs.CheckLaws.{→roomy, not-roomy}
-use Rattle.tables.proofs.check.roomy.Statement.{statement}
-use Rattle.tables.proofs.check.roomy.Tie as tie
+use Rattle.tables.proofs.lengths.roomy.Statement.{statement}
+use Rattle.tables.proofs.lengths.roomy.Tie as tie
 
 returns : tie.Need-returns
 returns c = let a = c .before .args in sym (not-roomy (a .Z) (a .C) (a .E) (λ (h : Roomy (a .Z) (a .C) (a .E)). omega arith))

@@ -1,0 +1,30 @@
+-- What the calls make of the tables: the records as they say, and what is derived as the records give it afresh.
+use Prim.Native.Nat.{ℕ, _+_, _*_}
+use mathlib.Core.List.{List, [], _∷_}
+use lib.ListN.{set}
+use lib.Seq.{sets}
+use Rattle.squares.specs.declared.shape.Rect.{Rect}
+use Rattle.tables.specs.Tables.{Tables}
+use Rattle.tables.specs.Derived.{startsOf, entriesOf, rostersOf}
+
+-- the tables with what is derived worked out afresh
+abbrev pub fresh : Tables → Tables
+fresh t = record { head = t .head; zones = t .zones; cars = t .cars; spots = t .spots; starts = startsOf t; entries = entriesOf t; rosters = rostersOf t }
+
+-- the tables with other zones
+abbrev pub zoned : Tables → List ℕ → Tables
+zoned t zones = record { head = t .head; zones = zones; cars = t .cars; spots = t .spots; starts = t .starts; entries = t .entries; rosters = t .rosters }
+
+-- zone z's record is a rectangle
+abbrev pub withZone : List ℕ → ℕ → Rect → List ℕ
+withZone zones z r = sets zones (4 * z) (r .a ∷ r .b ∷ r .w ∷ r .h ∷ [])
+
+-- zone z stands no more; the rest of its record stays
+abbrev pub withoutZone : List ℕ → ℕ → List ℕ
+withoutZone zones z = set zones (4 * z + 2) 0
+
+abbrev pub addStep : Tables → ℕ → Rect → Tables
+addStep t z r = fresh (zoned t (withZone (t .zones) z r))
+
+abbrev pub removeStep : Tables → ℕ → Tables
+removeStep t z = fresh (zoned t (withoutZone (t .zones) z))
