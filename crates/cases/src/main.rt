@@ -1,5 +1,7 @@
 // Document 01's cases, run through the calls. Each line is what was asked and what was answered:
 // the refusal number, or 0 and the values.
+mod small; // small.rt: a small town, sound and then with one number wrong at a time
+
 use libc::STDOUT_FILENO;
 use position::Coordinate;
 use position::Position;
@@ -10,16 +12,16 @@ use squares::Numbered;
 use squares::Rect;
 use squares::Shape;
 
-fn text(bytes: &[u8]) {
+pub fn text(bytes: &[u8]) {
     io::write_all(STDOUT_FILENO, bytes);
 }
 
-fn number(n: u64) {
+pub fn number(n: u64) {
     text(b" ");
     io::print_decimal(STDOUT_FILENO, n);
 }
 
-fn end() {
+pub fn end() {
     text(b"\n");
 }
 
@@ -80,6 +82,13 @@ fn wide(n: u32) -> u64 {
     n as u64
 }
 
+pub fn bracket(out: &[u32]) {
+    text(b" [");
+    first_eight(out);
+    text(b" ]");
+    end();
+}
+
 // The count, and the buffer's first eight numbers, which are 7 before.
 fn cut_into(s: Shape, r: Rect, out: &mut [u32]) {
     text(b"cut");
@@ -96,10 +105,7 @@ fn cut_into(s: Shape, r: Rect, out: &mut [u32]) {
             number(n as u64);
         }
     }
-    text(b" [");
-    first_eight(out);
-    text(b" ]");
-    end();
+    bracket(out);
 }
 
 fn cut_of(s: Shape, a: u32, b: u32, w: u32, h: u32) {
@@ -287,4 +293,5 @@ fn main() {
     odd_floats();
     near_powers();
     spots(town);
+    small::small_town();
 }

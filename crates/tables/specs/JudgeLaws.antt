@@ -92,6 +92,12 @@ record Whole (t : Tables) : Type 0 where
   front : take (inUse t) (t .entries) ≡ used t
   rest : drop (inUse t) (t .entries) ≡ replicate (entryRoom t - inUse t) free
 
+-- what is free from u on is so many free marks
+all-free : (entries : List ℕ) (u E : ℕ) → length entries ≡ E → every (freeAt (drop u entries)) (length (drop u entries)) ≡ true → drop u entries ≡ replicate (E - u) free
+all-free entries u E l e =
+    let many : length (drop u entries) ≡ E - u = omega (arith, length-drop u entries) in
+    ext-getD 0 (drop u entries) (replicate (E - u) free) (many ∙ sym (length-replicate (E - u) free)) (λ i h. eqb-true _ _ (every→ (freeAt (drop u entries)) (length (drop u entries)) e i h) ∙ sym (getD-replicate (E - u) i free 0 (omega arith)))
+
 key-right : (t : Tables) (key : ℕ) → keyRight (shapeOf t) (t .zones) key ≡ (ltb (key / 256) (squares (shapeOf t)) && on t key)
 unfolding keyRight on stands zoneStands
 key-right t key = refl
@@ -120,7 +126,7 @@ module _ (t : Tables) (size : Sized t) where
       record {
         few = few;
         front = full-count (on t) (S * 256) front rises members all;
-        rest = ext-getD 0 (drop u list) (replicate (entryRoom t - u) free) (length-drop u list ∙ ap (λ (n : ℕ). n - u) (size .lengths .entries) ∙ sym (length-replicate (entryRoom t - u) free)) (λ i h. eqb-true _ _ (every→ (freeAt (drop u list)) (length (drop u list)) (d .1) i h) ∙ sym (getD-replicate (entryRoom t - u) i free 0 (omega (arith, length-drop u list, size .lengths .entries))));
+        rest = all-free list u (entryRoom t) (size .lengths .entries) (d .1);
       }
     where
       right-member : inUse t ≤ length (t .entries) → every (rightAt (shapeOf t) (t .zones) (t .entries)) (inUse t) ≡ true → (x : ℕ) → List·Memᴰ x (take (inUse t) (t .entries)) → keyRight (shapeOf t) (t .zones) x ≡ true

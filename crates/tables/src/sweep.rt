@@ -2,9 +2,11 @@
 use crate::entry::wide;
 use crate::lists::entries_right;
 use crate::lists::starts_right;
+use crate::records::car_room;
 use crate::records::rect_in;
 use crate::records::shape_in;
 use crate::records::spot_in;
+use crate::records::zone_room;
 use position::Spot;
 use position::locate;
 use squares::Rect;
@@ -175,8 +177,8 @@ pub fn sound(
     ensures { λ r. ⌜ r ≡ sound (tables (now (head .entry)) (now (zones .entry)) (now (cars .entry)) (now (spots .entry)) (now (starts .entry)) (now (entries .entry)) (now (rosters .entry))) ⌝ }
 {
     let s = shape_in(head);
-    let Z = wide(head[3]);
-    let C = wide(head[4]);
+    let Z = wide(zone_room(head));
+    let C = wide(car_room(head));
     if !zones_fit(s, zones, Z) {
         return false;
     }

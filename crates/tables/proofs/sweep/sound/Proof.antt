@@ -12,7 +12,7 @@ abbrev whole : tie.Start → Tables
 whole c = tables (c .args .head .now) (c .args .zones .now) (c .args .cars .now) (c .args .spots .now) (c .args .starts .now) (c .args .entries .now) (c .args .rosters .now)
 
 known : (c : tie.After-wide2) → Known (whole (c .before .before .before .before .before .before .before .before .before .before .before .before)) (c .before .before .before .before .shape-in .result) (c .before .before .wide .result) (c .wide2 .result)
-known c = record { size = c .before .before .before .before .before .before .before .before .before .before .before .before .pre; shape = c .before .before .before .before .shape-in .ensures; zones = c .before .before .wide .ensures; cars = c .wide2 .ensures }
+known c = record { size = c .before .before .before .before .before .before .before .before .before .before .before .before .pre; shape = c .before .before .before .before .shape-in .ensures; zones = c .before .before .wide .ensures ∙ c .before .before .before .zone-room .ensures; cars = c .wide2 .ensures ∙ c .before .car-room .ensures }
 
 zones-right : (c : tie.Else1) → every (zoneFits (c .before .before .before .before .before .before .shape-in .result) (whole (c .before .before .before .before .before .before .before .before .before .before .before .before .before .before) .zones)) (c .before .before .before .before .wide .result) ≡ true
 zones-right c = sym (c .before .zones-fit .ensures) ∙ not-false _ (c .if1 .left)
@@ -29,14 +29,14 @@ lists-right c = sym (c .before .entries-right .ensures) ∙ not-false _ (c .if3 
 shape-in-requires : tie.Need-shape-in-requires
 shape-in-requires c κs = search needs
 
-shared-slice-read-wide : tie.Need-shared-slice-read-wide
-shared-slice-read-wide c = search needs
+zone-room-requires : tie.Need-zone-room-requires
+zone-room-requires c κs = search needs
 
 wide-requires : tie.Need-wide-requires
 wide-requires c κs = search needs
 
-shared-slice-read-wide-2 : tie.Need-shared-slice-read-wide-2
-shared-slice-read-wide-2 c = search needs
+car-room-requires : tie.Need-car-room-requires
+car-room-requires c κs = search needs
 
 wide-requires-2 : tie.Need-wide-requires-2
 wide-requires-2 c κs = search needs
@@ -59,8 +59,8 @@ sub-wide c = search needs
 mul-wide : tie.Need-mul-wide
 mul-wide c = search needs
 
-shared-slice-read-wide-3 : tie.Need-shared-slice-read-wide-3
-shared-slice-read-wide-3 c = search needs
+shared-slice-read-wide : tie.Need-shared-slice-read-wide
+shared-slice-read-wide c = search needs
 
 wide-requires-3 : tie.Need-wide-requires-3
 wide-requires-3 c κs = search needs
@@ -88,9 +88,9 @@ sound-spec =
     tie.close
     (tie.spec
     shape-in-requires
-    shared-slice-read-wide
+    zone-room-requires
     wide-requires
-    shared-slice-read-wide-2
+    car-room-requires
     wide-requires-2
     zones-fit-requires
     returns
@@ -98,7 +98,7 @@ sound-spec =
     returns-2
     sub-wide
     mul-wide
-    shared-slice-read-wide-3
+    shared-slice-read-wide
     wide-requires-3
     entries-right-requires
     returns-3

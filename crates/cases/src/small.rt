@@ -1,0 +1,286 @@
+// A small town: opened, then with a zone and a car written by hand, then with one number wrong at a time.
+use crate::bracket;
+use crate::end;
+use crate::number;
+use crate::text;
+use position::Position;
+use position::Spot;
+use position::float_of;
+use squares::Shape;
+use town::Judged;
+use town::Listed;
+use town::Opened;
+use town::Searched;
+use town::Traced;
+
+// The tables of one block of four cells: 2 zones, 2 cars, 4 entries, 5 squares.
+pub struct Small {
+    pub head: [u32; 6],
+    pub zones: [u32; 8],
+    pub cars: [u32; 2],
+    pub spots: [f32; 4],
+    pub starts: [u32; 6],
+    pub entries: [u32; 4],
+    pub rosters: [u8; 4],
+}
+
+const FREE: u32 = 0xFFFF_FFFF;
+
+// Zone 1 is the southern two cells, and car 0 is in the southeast one.
+fn standing() -> Small {
+    let zero = float_of(0);
+    Small {
+        head: [1, 1, 1, 2, 2, 4],
+        zones: [0, 0, 0, 0, 0, 0, 2, 1],
+        cars: [1, 0],
+        spots: [float_of(0x3FC0_0000), float_of(0x3F00_0000), zero, zero],
+        starts: [0, 0, 1, 2, 2, 2],
+        entries: [257, 513, FREE, FREE],
+        rosters: [0, 0, 1, 0],
+    }
+}
+
+fn say(answer: Judged) {
+    match answer {
+        Judged::Refused(n) => number(n as u64),
+        Judged::Sound => text(b" 0 yes"),
+        Judged::Unsound => text(b" 0 no"),
+    }
+    end();
+}
+
+fn judged(t: Small) {
+    let head = t.head;
+    let zones = t.zones;
+    let cars = t.cars;
+    let spots = t.spots;
+    let starts = t.starts;
+    let entries = t.entries;
+    let rosters = t.rosters;
+    text(b" sound ->");
+    say(town::judge_town(&head, &zones, &cars, &spots, &starts, &entries, &rosters));
+}
+
+fn opened() {
+    let mut head = [7u32; 6];
+    let mut zones = [7u32; 8];
+    let mut cars = [7u32; 2];
+    let mut spots = [float_of(0x7FC0_0000); 4];
+    let mut starts = [7u32; 6];
+    let mut entries = [7u32; 4];
+    let mut rosters = [7u8; 4];
+    text(b"garbage: sound ->");
+    say(town::judge_town(&head, &zones, &cars, &spots, &starts, &entries, &rosters));
+    text(b"open 1 1 1: 2 2 4 ->");
+    let s = Shape { k: 1, P: 1, Q: 1 };
+    match town::open_town(
+        &mut head,
+        &mut zones,
+        &mut cars,
+        &mut spots,
+        &mut starts,
+        &mut entries,
+        &mut rosters,
+        s,
+        2,
+        2,
+        4,
+    ) {
+        Opened::Refused(n) => number(n as u64),
+        Opened::Done => number(0),
+    }
+    end();
+    text(b"opened: sound ->");
+    say(town::judge_town(&head, &zones, &cars, &spots, &starts, &entries, &rosters));
+}
+
+fn search(x: u32, y: u32, out: &mut [u32]) {
+    let t = standing();
+    let head = t.head;
+    let zones = t.zones;
+    let cars = t.cars;
+    let spots = t.spots;
+    let starts = t.starts;
+    let entries = t.entries;
+    let rosters = t.rosters;
+    text(b"search");
+    number(x as u64);
+    number(y as u64);
+    text(b" ->");
+    let p = Position {
+        x: float_of(x),
+        y: float_of(y),
+    };
+    match town::search_zones(
+        &head,
+        &zones,
+        &cars,
+        &spots,
+        &starts,
+        &entries,
+        &rosters,
+        p,
+        out,
+    ) {
+        Searched::Refused(n) => number(n as u64),
+        Searched::Found(squares, zones) => {
+            number(0);
+            number(squares as u64);
+            number(zones as u64);
+        }
+    }
+    bracket(out);
+}
+
+fn roster(zone: u32, out: &mut [u32]) {
+    let t = standing();
+    let head = t.head;
+    let zones = t.zones;
+    let cars = t.cars;
+    let spots = t.spots;
+    let starts = t.starts;
+    let entries = t.entries;
+    let rosters = t.rosters;
+    text(b"roster");
+    number(zone as u64);
+    text(b" ->");
+    match town::list_roster(
+        &head,
+        &zones,
+        &cars,
+        &spots,
+        &starts,
+        &entries,
+        &rosters,
+        zone,
+        out,
+    ) {
+        Listed::Refused(n) => number(n as u64),
+        Listed::Cars(cars) => {
+            number(0);
+            number(cars as u64);
+        }
+    }
+    bracket(out);
+}
+
+fn trace(car: u32) {
+    let t = standing();
+    let head = t.head;
+    let zones = t.zones;
+    let cars = t.cars;
+    let spots = t.spots;
+    let starts = t.starts;
+    let entries = t.entries;
+    let rosters = t.rosters;
+    text(b"where");
+    number(car as u64);
+    text(b" ->");
+    match town::trace_car(
+        &head,
+        &zones,
+        &cars,
+        &spots,
+        &starts,
+        &entries,
+        &rosters,
+        car,
+    ) {
+        Traced::Refused(n) => number(n as u64),
+        Traced::At(p) => match position::locate(Shape { k: 1, P: 1, Q: 1 }, p) {
+            Spot::Off => text(b" 0 -"),
+            Spot::Cell(column, row) => {
+                number(0);
+                number(column as u64);
+                number(row as u64);
+            }
+        },
+    }
+    end();
+}
+
+fn reads() {
+    let mut out = [7u32; 3];
+    search(0x3FC0_0000, 0x3F00_0000, &mut out);
+    search(0x3F00_0000, 0x0000_0000, &mut out);
+    search(0x3F00_0000, 0x3F80_0000, &mut out);
+    search(0x4000_0000, 0x0000_0000, &mut out);
+    search(0x8000_0000, 0x0000_0000, &mut out);
+    roster(1, &mut out);
+    roster(0, &mut out);
+    roster(2, &mut out);
+    let mut short = [7u32; 1];
+    search(0x3F00_0000, 0x0000_0000, &mut short);
+    roster(1, &mut short);
+    trace(0);
+    trace(1);
+    trace(2);
+}
+
+// Records that mean nothing do not matter; every other number does.
+fn records() {
+    let mut idle = standing();
+    idle.zones[0] = 9;
+    idle.zones[3] = 9;
+    idle.spots[2] = float_of(0x7FC0_0000);
+    text(b"idle records");
+    judged(idle);
+    let mut beyond = standing();
+    beyond.zones[4] = 4294967295;
+    text(b"rectangle beyond the town");
+    judged(beyond);
+    let mut lost = standing();
+    lost.spots[0] = float_of(0x7FC0_0000);
+    text(b"position not on the map");
+    judged(lost);
+    let mut moved = standing();
+    moved.spots[1] = float_of(0x3FC0_0000);
+    text(b"car elsewhere");
+    judged(moved);
+    let mut capacity = standing();
+    capacity.head[5] = 5;
+    text(b"capacity and length apart");
+    judged(capacity);
+}
+
+fn derived() {
+    let mut swapped = standing();
+    swapped.entries[0] = 513;
+    swapped.entries[1] = 257;
+    text(b"keys out of order");
+    judged(swapped);
+    let mut twice = standing();
+    twice.entries[2] = 513;
+    twice.starts[5] = 3;
+    text(b"an entry twice");
+    judged(twice);
+    let mut unmarked = standing();
+    unmarked.entries[3] = 0;
+    text(b"a free mark too few");
+    judged(unmarked);
+    let mut overlapping = standing();
+    overlapping.starts[2] = 0;
+    text(b"runs that overlap");
+    judged(overlapping);
+    let mut high = standing();
+    high.starts[5] = 4294967295;
+    text(b"a start past the end");
+    judged(high);
+    let mut byte = standing();
+    byte.rosters[2] = 2;
+    text(b"a roster byte of 2");
+    judged(byte);
+    let mut missing = standing();
+    missing.rosters[2] = 0;
+    text(b"a car missing");
+    judged(missing);
+}
+
+pub fn small_town() {
+    opened();
+    text(b"standing");
+    judged(standing());
+    reads();
+    records();
+    derived();
+}
