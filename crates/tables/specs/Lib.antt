@@ -3,6 +3,7 @@ pub mod Check
 pub mod Derived
 pub mod Sound
 pub mod Steps
+pub mod Edits
 pub mod Rows
 pub mod Runs
 pub mod Tests
@@ -18,3 +19,8 @@ pub mod StartLaws
 pub mod EntryLaws
 pub mod JudgeLaws
 pub mod SoundLaws
+pub mod ZoneLaws
+pub mod DropLaws
+pub mod RankLaws
+pub mod RosterLaws
+pub mod StepLaws

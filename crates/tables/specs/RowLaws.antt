@@ -4,7 +4,7 @@ use mathlib.Core.Path.{_≡_, refl, ap, sym, _∙_}
 use mathlib.Core.Bool.{Bool, true, false}
 use mathlib.Core.List.{List, [], _∷_, _++_, append-nil, map}
 use native.Mathlib.Omega.{arith}
-use native.Mathlib.Nat.{add-zero, zero-add}
+use native.Mathlib.Nat.{add-zero, zero-add, mul-le-mul, mul-le-mul-right, suc-mul}
 use native.Mathlib.Numerals.{add-one}
 use lib.Arith.{digits-lt, digits-div, digits-mod}
 use lib.Dec.{ltb}
@@ -16,9 +16,10 @@ use Rattle.order.specs.Buffer.{Wrote}
 use Rattle.order.specs.BufferLaws.{wrote-none, wrote-more}
 use Rattle.order.specs.KeepLaws.{span-add, keep-append, keep-ext, span→}
 use Rattle.tables.specs.Tables.{Tables, zoneRoom, carRoom, rosterHas}
+use Rattle.tables.specs.Check.{Sized}
 use Rattle.tables.specs.Derived.{bit}
 use Rattle.tables.specs.Sound.{Sound}
-use Rattle.tables.specs.Rows.{marked, row, Adds}
+use Rattle.tables.specs.Rows.{marked, row, Adds, RowThere}
 
 -- ---- a list filled from the front
 
@@ -59,6 +60,16 @@ adds-none byte c b at e = record { wrote = rw (le-ltb 0 byte (omega arith)) (wro
 
 pub adds-one : (byte c : ℕ) (b b′ : List ℕ) (at : ℕ) → (byte ≡ 0 → ⊥) → b′ ≡ set b at c → Adds byte c b b′ at (at + 1)
 adds-one byte c b b′ at f e = record { wrote = rw (lt-ltb 0 byte (omega arith)) (record { stored = e; next = refl }); most = omega arith }
+
+-- a zone's row is in the table
+pub row-in : (t : Tables) → Sized t → (z : ℕ) → z < zoneRoom t → RowThere (t .rosters) z (carRoom t)
+row-in t h z g =
+    let most = mul-le-mul-right (carRoom t) g in
+    record {
+      there = omega (arith, h .lengths .rosters, most, suc-mul z (carRoom t));
+      early = omega (arith, mul-le-mul (h .room .zones-few) (h .room .cars-few), most, suc-mul z (carRoom t));
+      few = h .room .cars-few;
+    }
 
 -- ---- sound rosters
 

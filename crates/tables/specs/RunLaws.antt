@@ -36,10 +36,10 @@ abbrev pub keysAt : Tables → ℕ → List ℕ
 keysAt t p = keep (on t) (span (p * 256) 256)
 
 -- the keys of the d squares from place p on
-abbrev keysFrom : Tables → ℕ → ℕ → List ℕ
+abbrev pub keysFrom : Tables → ℕ → ℕ → List ℕ
 keysFrom t p d = keep (on t) (span (p * 256) (d * 256))
 
-keys-add : (t : Tables) (p d : ℕ) → keysTo t (p + d) ≡ keysTo t p ++ keysFrom t p d
+pub keys-add : (t : Tables) (p d : ℕ) → keysTo t (p + d) ≡ keysTo t p ++ keysFrom t p d
 keys-add t p d = ap (λ (n : ℕ). keep (on t) (upto n)) (add-mul p d 256) ∙ rw (span-add 0 (p * 256) (d * 256), zero-add (p * 256)) (keep-append (on t) (upto (p * 256)) (span (p * 256) (d * 256)))
 
 pub keys-more : (t : Tables) (p : ℕ) → keysTo t (p + 1) ≡ keysTo t p ++ keysAt t p

@@ -1,7 +1,7 @@
 -- The lent tables and the records that stand in them, as docs/LAYOUT.md has them.
 use Prim.Native.Nat.{ℕ, _+_, _*_}
 use mathlib.Core.Bool.{Bool, _&&_}
-use mathlib.Core.List.{List}
+use mathlib.Core.List.{List, [], _∷_}
 use lib.Dec.{ltb}
 use lib.Ieee.{Float, nan}
 use lib.ListN.{getD}
@@ -24,6 +24,9 @@ abbrev pub tables : List ℕ → List ℕ → List ℕ → List Float → List �
 tables h z c p s e r = record { head = h; zones = z; cars = c; spots = p; starts = s; entries = e; rosters = r }
 
 -- ---- what head says
+
+abbrev pub headOf : Shape → ℕ → ℕ → ℕ → List ℕ
+headOf s Z C E = s .k ∷ s .P ∷ s .Q ∷ Z ∷ C ∷ E ∷ []
 
 abbrev pub shapeIn : List ℕ → Shape
 shapeIn head = record { k = getD head 0 0; P = getD head 1 0; Q = getD head 2 0 }

@@ -5,7 +5,7 @@ use squares::Shape;
 ghost use Prim.Native.Nat.{_+_, _*_, _<_, _≤_};
 ghost use mathlib.Core.Path.{_≡_};
 ghost use lib.ListN.{length, getD};
-ghost use Rattle.tables.specs.Tables.{shapeIn, rectIn, standsIn, placedIn, spotIn};
+ghost use Rattle.tables.specs.Tables.{headOf, shapeIn, rectIn, standsIn, placedIn, spotIn};
 
 pub fn shape_in(head: &[u32]) -> Shape
     requires { ⌜ 3 ≤ length (now head) ⌝ }
@@ -16,6 +16,18 @@ pub fn shape_in(head: &[u32]) -> Shape
         P: head[1],
         Q: head[2],
     }
+}
+
+pub fn write_head(head: &mut [u32], s: Shape, Z: u32, C: u32, E: u32)
+    requires { ⌜ length (now head) ≡ 6 ⌝ }
+    ensures { λ _. ⌜ now (head .exit) ≡ headOf s Z C E ⌝ }
+{
+    head[0] = s.k;
+    head[1] = s.P;
+    head[2] = s.Q;
+    head[3] = Z;
+    head[4] = C;
+    head[5] = E;
 }
 
 pub fn zone_room(head: &[u32]) -> u32

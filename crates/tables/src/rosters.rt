@@ -1,7 +1,10 @@
 // A row of the rosters.
+use crate::fill::fill_bytes;
 ghost use Prim.Native.Nat.{_*_, _≤_};
+ghost use mathlib.Core.Path.{_≡_};
 ghost use Rattle.order.specs.Buffer.{Wrote};
 ghost use Rattle.tables.specs.Rows.{row, Adds, RowThere};
+ghost use Rattle.tables.specs.Edits.{rowCleared};
 
 // Stores car c where its byte is not 0. Answers the next place.
 fn add_marked(byte: u8, c: u32, out: &mut [u32], next: usize) -> usize
@@ -30,4 +33,14 @@ pub fn list_cars(rosters: &[u8], z: usize, many: u32, out: &mut [u32]) -> usize
         c += 1;
     }
     next
+}
+
+// Sets a zone's row of so many bytes to 0.
+pub fn clear_row(rosters: &mut [u8], z: usize, many: u32)
+    requires { ⌜ RowThere (now rosters) z many ⌝ }
+    ensures { λ _. ⌜ now (rosters .exit) ≡ rowCleared (now (rosters .entry)) z many ⌝ }
+{
+    let from = z * many as usize;
+    let end = from + many as usize;
+    fill_bytes(&mut rosters[from..end], 0);
 }

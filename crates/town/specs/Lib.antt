@@ -5,3 +5,4 @@ pub mod JudgeLaws
 pub mod Unique
 pub mod Looks
 pub mod SearchLaws
+pub mod RemoveLaws

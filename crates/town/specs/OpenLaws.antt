@@ -3,10 +3,9 @@ use Prim.Native.Nat.{ℕ, zero, suc, _+_, _*_, _/_, _%_}
 use mathlib.Core.Path.{_≡_, refl, ap, sym, _∙_}
 use mathlib.Core.Bool.{true, false}
 use mathlib.Core.List.{List, [], _∷_, map}
-use native.Mathlib.Omega.{arith}
 use native.Mathlib.Nat.{sub-zero}
 use lib.Ieee.{Float, binary32, ofBits}
-use lib.ListN.{length, getD, set, replicate, length-replicate}
+use lib.ListN.{length, getD, replicate, length-replicate}
 use Rattle.order.specs.Order.{span}
 use Rattle.order.specs.TestLaws.{true-not-false}
 use Rattle.order.specs.KeepLaws.{keep-none, length-span}
@@ -15,7 +14,7 @@ use Rattle.squares.specs.Shape.{Allowed, allowed}
 use Rattle.squares.specs.ShapeLaws.{allowed→}
 use Rattle.squares.specs.Squares.{squares}
 use Rattle.squares.specs.PromiseLaws.{unless→, not-both}
-use Rattle.tables.specs.Tables.{Tables, tables, stands, placed, rosterHas}
+use Rattle.tables.specs.Tables.{Tables, tables, headOf, stands, placed, rosterHas}
 use Rattle.tables.specs.Check.{Roomy, roomy, Long, long}
 use Rattle.tables.specs.CheckLaws.{roomy→, long→}
 use Rattle.tables.specs.Derived.{on, keysTo, free, bit}
@@ -61,7 +60,7 @@ module _ (s : Shape) (Z C E : ℕ) (t : Tables) where
 
   -- each table set to its one number
   pub opens-done : openRefusal s Z C E t ≡ 0 → (h z c : List ℕ) (p : List Float) (a e r : List ℕ)
-      → h ≡ s .k ∷ s .P ∷ s .Q ∷ Z ∷ C ∷ E ∷ []
+      → h ≡ headOf s Z C E
       → z ≡ replicate (length (t .zones)) 0 → c ≡ replicate (length (t .cars)) 0 → p ≡ replicate (length (t .spots)) (ofBits binary32 0) → a ≡ replicate (length (t .starts)) 0 → e ≡ replicate (length (t .entries)) free → r ≡ replicate (length (t .rosters)) 0
       → Opens s Z C E t (tables h z c p a e r) Opened.Done
   opens-done o h z c p a e r eh ez ec ep ea ee er =
@@ -71,17 +70,6 @@ module _ (s : Shape) (Z C E : ℕ) (t : Tables) where
         done = λ g. (refl, rw (eh, ez, ec, ep, ea, ee, er, l .zones, l .cars, l .spots, l .starts, l .entries, l .rosters));
         says = rw o;
       }
-
--- six numbers written one after the other
-pub head-written : (l : List ℕ) (k P Q Z C E : ℕ) → length l ≡ 6 → set (set (set (set (set (set l 0 k) 1 P) 2 Q) 3 Z) 4 C) 5 E ≡ k ∷ P ∷ Q ∷ Z ∷ C ∷ E ∷ []
-head-written [] k P Q Z C E e = absurd (omega arith)
-head-written (a ∷ []) k P Q Z C E e = absurd (omega arith)
-head-written (a ∷ b ∷ []) k P Q Z C E e = absurd (omega arith)
-head-written (a ∷ b ∷ c ∷ []) k P Q Z C E e = absurd (omega arith)
-head-written (a ∷ b ∷ c ∷ d ∷ []) k P Q Z C E e = absurd (omega arith)
-head-written (a ∷ b ∷ c ∷ d ∷ f ∷ []) k P Q Z C E e = absurd (omega arith)
-head-written (a ∷ b ∷ c ∷ d ∷ f ∷ g ∷ []) k P Q Z C E e = refl
-head-written (a ∷ b ∷ c ∷ d ∷ f ∷ g ∷ h ∷ l) k P Q Z C E e = absurd (omega arith)
 
 -- ---- an empty town is sound
 

@@ -14,15 +14,17 @@ use Rattle.squares.specs.Squares.{squares}
 use Rattle.squares.specs.Promises.{unless, told}
 use Rattle.position.specs.declared.Position.{Position}
 use Rattle.position.specs.Answer.{onTown, columnOf, rowOf}
-use Rattle.tables.specs.Tables.{Tables, shapeOf, zoneRoom, carRoom, stands, placed, spotOf, zoneHolds, rosterHas}
+use Rattle.tables.specs.Tables.{Tables, headOf, shapeOf, zoneRoom, carRoom, stands, placed, spotOf, zoneHolds, rosterHas}
 use Rattle.tables.specs.Check.{roomy, long, sized}
 use Rattle.tables.specs.Derived.{free}
 use Rattle.tables.specs.Sound.{Sound}
+use Rattle.tables.specs.Steps.{removeStep}
 use Rattle.town.specs.declared.answers.Opened.{Opened}
 use Rattle.town.specs.declared.answers.Traced.{Traced}
 use Rattle.town.specs.declared.answers.Judged.{Judged}
 use Rattle.town.specs.declared.answers.Searched.{Searched}
 use Rattle.town.specs.declared.answers.Listed.{Listed}
+use Rattle.town.specs.declared.answers.Removed.{Removed}
 
 -- ---- open
 
@@ -32,7 +34,7 @@ openRefusal s Z C E t = unless (allowed s) 1 (unless (roomy Z C E) 2 (unless (lo
 -- a town with no zone and no car
 abbrev pub emptyTown : Shape → ℕ → ℕ → ℕ → Tables
 emptyTown s Z C E = record {
-  head = s .k ∷ s .P ∷ s .Q ∷ Z ∷ C ∷ E ∷ [];
+  head = headOf s Z C E;
   zones = replicate (4 * Z) 0;
   cars = replicate C 0;
   spots = replicate (2 * C) (ofBits binary32 0);
@@ -119,3 +121,18 @@ pub record Lists (t : Tables) (z : ℕ) (b b′ : List ℕ) (answer : Listed) : 
   pub accepted : listRefusal t z (length b) ≡ 0 → (n : ℕ) → answer ≡ Listed.Refused n → ⊥
   pub done : listRefusal t z (length b) ≡ 0 → Sound t → (answer ≡ Listed.Cars (length (roster t z))) × (b′ ≡ over (roster t z) b)
   pub says : (listRefusal t z (length b) ≡ 0 → Sound t) → listedSays answer ≡ told (listRefusal t z (length b)) (length (roster t z) ∷ [])
+
+-- ---- remove a zone
+
+unfoldable pub removeRefusal : Tables → ℕ → ℕ
+removeRefusal t z = unless (sized t) 3 (unless (ltb z (zoneRoom t)) 4 (unless (stands t z) 7 0))
+
+abbrev pub removedSays : Removed → List ℕ
+removedSays (Removed.Refused n) = n ∷ []
+removedSays Removed.Done = 0 ∷ []
+
+pub record Removes (t t′ : Tables) (z : ℕ) (answer : Removed) : Type 0 where
+  pub refused : (removeRefusal t z ≡ 0 → ⊥) → (answer ≡ Removed.Refused (removeRefusal t z)) × (t′ ≡ t)
+  pub accepted : removeRefusal t z ≡ 0 → answer ≡ Removed.Done
+  pub done : removeRefusal t z ≡ 0 → Sound t → t′ ≡ removeStep t z
+  pub says : removedSays answer ≡ told (removeRefusal t z) []

@@ -3,7 +3,7 @@ use Prim.Native.Nat.{ℕ, zero, suc, _*_, _<_, _≤_}
 use mathlib.Core.Path.{_≡_, refl, ap, sym, _∙_}
 use mathlib.Core.Bool.{true, false}
 use mathlib.Core.List.{List}
-use native.Mathlib.Nat.{zero-add, mul-le-mul, mul-le-mul-right, suc-mul}
+use native.Mathlib.Nat.{zero-add}
 use native.Mathlib.Omega.{arith}
 use lib.Dec.{leb, ltb}
 use lib.ListN.{length}
@@ -18,7 +18,7 @@ use Rattle.tables.specs.Check.{Sized, sized}
 use Rattle.tables.specs.CheckLaws.{sized→}
 use Rattle.tables.specs.Sound.{Sound}
 use Rattle.tables.specs.Rows.{row, RowThere}
-use Rattle.tables.specs.RowLaws.{sound-row}
+use Rattle.tables.specs.RowLaws.{row-in, sound-row}
 use Rattle.town.specs.declared.answers.Traced.{Traced}
 use Rattle.town.specs.declared.answers.Listed.{Listed}
 use Rattle.town.specs.Promises.{Traces, traceRefusal, Lists, listRefusal, roster}
@@ -96,11 +96,7 @@ module _ (t : Tables) (z room : ℕ) where
       record { size = sized→ t (a .0); zone = ltb-true z (zoneRoom t) (b .0); enough = leb-true (carRoom t) room (d .0) }
 
   pub row-there : Taken → RowThere (t .rosters) z (carRoom t)
-  row-there h = record {
-    there = omega (arith, h .size .lengths .rosters, mul-le-mul-right (carRoom t) (h .zone), suc-mul z (carRoom t));
-    early = omega (arith, mul-le-mul (h .size .room .zones-few) (h .size .room .cars-few), mul-le-mul-right (carRoom t) (h .zone), suc-mul z (carRoom t));
-    few = h .size .room .cars-few;
-  }
+  row-there h = row-in t (h .size) z (h .zone)
 
 module _ (t : Tables) (z : ℕ) (b : List ℕ) where
   pub lists-refused : (n : ℕ) → (n ≡ 0 → ⊥) → n ≡ listRefusal t z (length b) → Lists t z b b (Listed.Refused n)

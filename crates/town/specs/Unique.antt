@@ -12,7 +12,8 @@ use Rattle.town.specs.declared.answers.Opened.{Opened}
 use Rattle.town.specs.declared.answers.Traced.{Traced}
 use Rattle.town.specs.declared.answers.Searched.{Searched}
 use Rattle.town.specs.declared.answers.Listed.{Listed}
-use Rattle.town.specs.Promises.{Opens, openRefusal, Traces, traceRefusal, Searches, searchRefusal, Lists, listRefusal}
+use Rattle.town.specs.declared.answers.Removed.{Removed}
+use Rattle.town.specs.Promises.{Opens, openRefusal, Traces, traceRefusal, Searches, searchRefusal, Lists, listRefusal, Removes, removeRefusal}
 
 pub opens-unique : {s : Shape} {Z C E : ℕ} {t u v : Tables} {x y : Opened} → Opens s Z C E t u x → Opens s Z C E t v y → (x ≡ y) × (u ≡ v)
 opens-unique {s} {Z} {C} {E} {t} p q = by-refusal (openRefusal s Z C E t) (λ e. (p .done e .0 ∙ sym (q .done e .0), p .done e .1 ∙ sym (q .done e .1))) (λ f. (p .refused f .0 ∙ sym (q .refused f .0), p .refused f .1 ∙ sym (q .refused f .1)))
@@ -25,3 +26,6 @@ lists-unique {t} {z} {b} h p q = by-refusal (listRefusal t z (length b)) (λ e. 
 
 pub searches-unique : {t : Tables} {p : Position} {b c d : List ℕ} {x y : Searched} → (searchRefusal t p (length b) ≡ 0 → Sound t) → Searches t p b c x → Searches t p b d y → (x ≡ y) × (c ≡ d)
 searches-unique {t} {p} {b} h u v = by-refusal (searchRefusal t p (length b)) (λ e. (u .done e (h e) .0 ∙ sym (v .done e (h e) .0), u .done e (h e) .1 ∙ sym (v .done e (h e) .1))) (λ f. (u .refused f .0 ∙ sym (v .refused f .0), u .refused f .1 ∙ sym (v .refused f .1)))
+
+pub removes-unique : {t u v : Tables} {z : ℕ} {x y : Removed} → (removeRefusal t z ≡ 0 → Sound t) → Removes t u z x → Removes t v z y → (x ≡ y) × (u ≡ v)
+removes-unique {t} {z = z} h p q = by-refusal (removeRefusal t z) (λ e. (p .accepted e ∙ sym (q .accepted e), p .done e (h e) ∙ sym (q .done e (h e)))) (λ f. (p .refused f .0 ∙ sym (q .refused f .0), p .refused f .1 ∙ sym (q .refused f .1)))

@@ -30,3 +30,8 @@ pub enum Listed {
     Refused(u32),
     Cars(usize),
 }
+
+pub enum Removed {
+    Refused(u32),
+    Done,
+}

@@ -2,8 +2,6 @@
 use crate::answers::Opened;
 use squares::Shape;
 ghost use mathlib.Core.Path.{_≡_};
-ghost use mathlib.Core.List.{[], _∷_};
-ghost use lib.ListN.{length};
 ghost use Rattle.tables.specs.Tables.{tables};
 ghost use Rattle.town.specs.Promises.{Opens, openRefusal};
 
@@ -46,18 +44,6 @@ fn refuse_open(
     0
 }
 
-fn write_head(head: &mut [u32], s: Shape, Z: u32, C: u32, E: u32)
-    requires { ⌜ length (now head) ≡ 6 ⌝ }
-    ensures { λ _. ⌜ now (head .exit) ≡ s .k ∷ s .P ∷ s .Q ∷ Z ∷ C ∷ E ∷ [] ⌝ }
-{
-    head[0] = s.k;
-    head[1] = s.P;
-    head[2] = s.Q;
-    head[3] = Z;
-    head[4] = C;
-    head[5] = E;
-}
-
 // Writes a town with no zone and no car, whatever lay in the tables.
 pub fn open_town(
     head: &mut [u32],
@@ -90,7 +76,7 @@ pub fn open_town(
     if refusal != 0 {
         return Opened::Refused(refusal);
     }
-    write_head(head, s, Z, C, E);
+    tables::write_head(head, s, Z, C, E);
     tables::fill_words(zones, 0);
     tables::fill_words(cars, 0);
     tables::fill_floats(spots, 0.0);

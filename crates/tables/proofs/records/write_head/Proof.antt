@@ -1,9 +1,9 @@
 use lib.ListN.{length-set}
 use native.Mathlib.Omega.{arith}
-use Rattle.town.specs.OpenLaws.{head-written}
+use Rattle.tables.specs.RecordLaws.{head-written}
 use borrow.Author.Needs.{needs}
-use Rattle.town.proofs.open.write_head.Statement.{statement}
-use Rattle.town.proofs.open.write_head.Tie as tie
+use Rattle.tables.proofs.records.write_head.Statement.{statement}
+use Rattle.tables.proofs.records.write_head.Tie as tie
 
 slice-write-head : tie.Need-slice-write-head
 slice-write-head c = search needs

@@ -1,0 +1,36 @@
+-- What the functions that change one table make of it, over plain lists.
+use Prim.Native.Nat.{ℕ, _-_, _*_, _%_, _≤_}
+use mathlib.Core.Path.{_≡_}
+use mathlib.Core.Bool.{Bool, not}
+use mathlib.Core.List.{List, _++_, map}
+use lib.Dec.{eqb}
+use lib.ListN.{length, take, replicate}
+use lib.Seq.{sets}
+use Rattle.order.specs.Order.{upto, keep}
+use Rattle.order.specs.Buffer.{rank}
+use Rattle.tables.specs.Derived.{free}
+
+-- for each of so many places, how many entries at the front are keys of places before it
+abbrev pub ranks : List ℕ → ℕ → List ℕ
+ranks entries places = map (λ (p : ℕ). rank (p * 256) entries) (upto places)
+
+-- a key is not of zone z
+abbrev pub ofOther : ℕ → ℕ → Bool
+ofOther z key = not (eqb (key % 256) z)
+
+abbrev pub others : ℕ → List ℕ → List ℕ
+others z entries = keep (ofOther z) entries
+
+-- the keys of zone z taken out, and free marks to the end
+abbrev pub dropped : ℕ → List ℕ → List ℕ
+dropped z entries = others z entries ++ replicate (length entries - length (others z entries)) free
+
+-- the keys of other zones stand at the front; the answer is how many they are
+pub record Packed (z : ℕ) (e e′ : List ℕ) (r : ℕ) : Type 0 where
+  pub front : take r e′ ≡ others z e
+  pub count : r ≡ length (others z e)
+  pub within : r ≤ length e
+
+-- zone z's row of so many bytes set to 0
+abbrev pub rowCleared : List ℕ → ℕ → ℕ → List ℕ
+rowCleared rosters z many = sets rosters (z * many) (replicate many 0)
