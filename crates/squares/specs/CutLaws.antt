@@ -1,5 +1,5 @@
 -- Laws of the cut of a rectangle.
-use Prim.Native.Nat.{ℕ, zero, suc, _+_, _-_, _*_, _/_, _%_, _^_, _<_, _≤_}
+use Prim.Native.Nat.{ℕ, zero, suc, _+_, _-_, _*_, _/_, _%_, _<_, _≤_}
 use mathlib.Core.Path.{_≡_, refl, ap, ap₂, sym, _∙_}
 use mathlib.Core.Logic.{_↔_, ⊎-elim}
 use mathlib.Core.Bool.{true, false, not}
@@ -18,12 +18,11 @@ use Rattle.squares.specs.declared.shape.Rect.{Rect}
 use Rattle.squares.specs.Shape.{Allowed, width, height}
 use Rattle.squares.specs.Squares.{sideOn, squaresOn, squares, number, cornerX, cornerY}
 use Rattle.squares.specs.Cut.{holds, inside, inCut, code, cutOn, cutTo, cut}
-use Rattle.squares.specs.PowerLaws.{four-pos, four-small}
 use Rattle.squares.specs.SquareLaws.{squaresTo, count-squares, corner-number-x, corner-number-y, number-corner, number-parent, in-square, corner-x-fits, corner-y-fits}
 use Rattle.squares.specs.CornerLaws.{side-halves, child-x, child-y}
 use Rattle.squares.specs.RectLaws.{Within, quarter-within, holds→, →holds, within→, →within}
 use Rattle.squares.specs.Leaves.{Counted}
-use Rattle.squares.specs.ShapeLaws.{squares-small, squares-is}
+use Rattle.squares.specs.ShapeLaws.{squares-small, squares-few}
 
 -- ---- inside
 
@@ -197,6 +196,6 @@ length-cut-to s r (suc m) = rw (length-append (cutTo s r m) (cutOn s r m), lengt
 -- no more than the town has squares
 pub count-few : (s : Shape) (r : Rect) (t : ℕ) → Allowed s → t ≡ length (cut s r) → Counted s r t
 count-few s r t h e =
-    let many = squares-is s h (4 ^ (s .k + 1)) (record { is = refl; some = four-pos (s .k + 1); small = four-small (s .k + 1) 6 (omega (arith, h .levels)) }) .1 .small in
+    let many = squares-few s h in
     let all : squaresTo s (suc (s .k)) ≡ squares s = ap (squaresTo s) (sym (add-one (s .k))) ∙ count-squares s in
     record { is = e; few = omega (arith, length-cut-to s r (suc (s .k)), many, all) }

@@ -128,6 +128,9 @@ module _ (s : Shape) (h : Allowed s) where
       let least : 1 * 3 ≤ s .P * s .Q * (r - 1) = mul-le-mul (mul-pos (h .columns) (h .rows)) three in
       (omega arith, record { is = rw (p .is); some = omega arith; small = omega arith })
 
+  pub squares-few : squares s ≤ 87381
+  squares-few = squares-is (4 ^ (s .k + 1)) (record { is = refl; some = four-pos (s .k + 1); small = four-small (s .k + 1) 6 (omega (arith, h .levels)) }) .1 .small
+
 -- what the test of a shape works out
 module _ (s : Shape) (r : ℕ) (p : Positive (side s) 32 r) where
   pub most→ : (n : ℕ) → n ≤ 256 / r → n * side s ≤ 256

@@ -1,5 +1,5 @@
 -- Laws of the starts: how many entries lie before each place, counted in one pass, and what the records give.
-use Prim.Native.Nat.{ℕ, zero, suc, _+_, _-_, _*_, _^_, _<_, _≤_}
+use Prim.Native.Nat.{ℕ, zero, suc, _+_, _-_, _*_, _<_, _≤_}
 use mathlib.Core.Path.{_≡_, refl, ap, ap₂, sym, _∙_}
 use mathlib.Core.Logic.{⊎-elim}
 use mathlib.Core.List.{List, [], _∷_, _++_, append-nil, append-assoc, map, map-append, List·Memᴰ, List·Memᴰ·head, List·Memᴰ·tail, List·Memᴰ·cases-cons, List·Memᴰ·not-nil, List·Memᴰ·append-cases}
@@ -15,11 +15,8 @@ use Rattle.order.specs.Buffer.{rank, Ranked}
 use Rattle.order.specs.BufferLaws.{rank-le}
 use Rattle.order.specs.TestLaws.{lt-or-le}
 use Rattle.order.specs.KeepLaws.{span-add, span→, keep→, length-span}
-use Rattle.squares.specs.declared.shape.Shape.{Shape}
-use Rattle.squares.specs.Shape.{Allowed}
 use Rattle.squares.specs.Squares.{squares}
-use Rattle.squares.specs.PowerLaws.{four-pos, four-small}
-use Rattle.squares.specs.ShapeLaws.{squares-is}
+use Rattle.squares.specs.ShapeLaws.{squares-few}
 use Rattle.tables.specs.Tables.{Tables, shapeOf, entryRoom}
 use Rattle.tables.specs.Check.{Sized}
 use Rattle.tables.specs.Derived.{on, keysTo, used, free, entriesOf, startsOf}
@@ -95,9 +92,6 @@ map-same f g (x ∷ l) h = rw (h x (List·Memᴰ·head refl), map-same f g l (λ
 replicate→ : (n v y : ℕ) → List·Memᴰ y (replicate n v) → y ≡ v
 replicate→ zero v y m = absurd (List·Memᴰ·not-nil m)
 replicate→ (suc n) v y m = ⊎-elim (λ (e : y ≡ v). e) (λ (h : List·Memᴰ y (replicate n v)). replicate→ n v y h) (List·Memᴰ·cases-cons m)
-
-squares-few : (s : Shape) → Allowed s → squares s ≤ 87381
-squares-few s h = squares-is s h (4 ^ (s .k + 1)) (record { is = refl; some = four-pos (s .k + 1); small = four-small (s .k + 1) 6 (omega (arith, h .levels)) }) .1 .small
 
 module _ (t : Tables) (size : Sized t) where
   rank-start : (p : ℕ) → p ≤ squares (shapeOf t) → rank (p * 256) (entriesOf t) ≡ length (keysTo t p)

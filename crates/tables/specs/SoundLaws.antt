@@ -1,6 +1,6 @@
 -- How soundness is found out, test by test.
-use Prim.Native.Nat.{ℕ, _+_, _-_, _*_, _^_, _<_, _≤_}
-use mathlib.Core.Path.{_≡_, refl, ap, _∙_}
+use Prim.Native.Nat.{ℕ, _-_, _*_, _<_, _≤_}
+use mathlib.Core.Path.{_≡_, ap, _∙_}
 use mathlib.Core.Bool.{true, false}
 use mathlib.Core.List.{List}
 use native.Mathlib.Omega.{arith}
@@ -10,10 +10,8 @@ use lib.Seq.{take-all}
 use borrow.Author.Tests.{le-leb, lt-leb, eq-eqb, ne-eqb, leb-true}
 use Rattle.order.specs.TestLaws.{and→}
 use Rattle.squares.specs.declared.shape.Shape.{Shape}
-use Rattle.squares.specs.Shape.{Allowed}
 use Rattle.squares.specs.Squares.{squares}
-use Rattle.squares.specs.PowerLaws.{four-pos, four-small}
-use Rattle.squares.specs.ShapeLaws.{squares-is}
+use Rattle.squares.specs.ShapeLaws.{squares-few}
 use Rattle.tables.specs.Tables.{Tables, shapeOf, zoneRoom, carRoom}
 use Rattle.tables.specs.Check.{Sized}
 use Rattle.tables.specs.Tests.{every, sum, zoneFits, carFits, rightAt, risesAt, freeAt, cutSize, startRight, byteRight, inUse, entriesRight, sound, Zoned, Fitting, Parked, Riding}
@@ -52,9 +50,6 @@ module _ (s : Shape) (Z : ℕ) (zones entries : List ℕ) (u : ℕ) where
             rw (le-leb u (length entries) few, rise, right, ← all, eq-eqb u n e, whole)
 
 -- ---- all tables
-
-squares-few : (s : Shape) → Allowed s → squares s ≤ 87381
-squares-few s h = squares-is s h (4 ^ (s .k + 1)) (record { is = refl; some = four-pos (s .k + 1); small = four-small (s .k + 1) 6 (omega (arith, h .levels)) }) .1 .small
 
 -- the shape and the capacities as they were read
 pub record Known (t : Tables) (s : Shape) (Z C : ℕ) : Type 0 where

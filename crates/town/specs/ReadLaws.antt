@@ -1,7 +1,7 @@
 -- How where and roster refuse, and how they keep their promises.
 use Prim.Native.Nat.{ℕ, zero, suc, _*_, _<_, _≤_}
 use mathlib.Core.Path.{_≡_, refl, ap, sym, _∙_}
-use mathlib.Core.Bool.{true, false}
+use mathlib.Core.Bool.{Bool, true, false}
 use mathlib.Core.List.{List}
 use native.Mathlib.Nat.{zero-add}
 use native.Mathlib.Omega.{arith}
@@ -12,6 +12,7 @@ use Rattle.order.specs.Order.{upto, over}
 use Rattle.order.specs.Buffer.{Wrote}
 use Rattle.order.specs.BufferLaws.{wrote-over}
 use Rattle.order.specs.KeepLaws.{length-keep, length-span}
+use Rattle.squares.specs.Promises.{unless}
 use Rattle.squares.specs.PromiseLaws.{unless→, not-both}
 use Rattle.tables.specs.Tables.{Tables, zoneRoom, carRoom, stands, placed, spotOf, rosterHas}
 use Rattle.tables.specs.Check.{Sized, sized}
@@ -21,7 +22,7 @@ use Rattle.tables.specs.Rows.{row, RowThere}
 use Rattle.tables.specs.RowLaws.{row-in, sound-row}
 use Rattle.town.specs.declared.answers.Traced.{Traced}
 use Rattle.town.specs.declared.answers.Listed.{Listed}
-use Rattle.town.specs.Promises.{Traces, traceRefusal, Lists, listRefusal, roster}
+use Rattle.town.specs.Promises.{Traces, traceRefusal, Lists, listRefusal, roster, removeRefusal}
 
 -- ---- where a car is
 
@@ -60,25 +61,30 @@ module _ (t : Tables) (c : ℕ) where
 -- ---- roster
 
 module _ (t : Tables) (z room : ℕ) where
-  pub list-3 : sized t ≡ false → listRefusal t z room ≡ 3
-  unfolding listRefusal
-  list-3 e = rw e
+  -- as a removal is refused, or then by the room alone
+  pub list-zone : (removeRefusal t z ≡ 0 → ⊥) → listRefusal t z room ≡ removeRefusal t z
+  unfolding listRefusal removeRefusal
+  list-zone = go (sized t) (ltb z (zoneRoom t)) (stands t z)
+    where
+      go : (a b c : Bool) → (unless a 3 (unless b 4 (unless c 7 0)) ≡ 0 → ⊥) → unless a 3 (unless b 4 (unless c 7 (unless (leb (carRoom t) room) 11 0))) ≡ unless a 3 (unless b 4 (unless c 7 0))
+      go true true true f = absurd (f refl)
+      go true true false f = refl
+      go true false c f = refl
+      go false b c f = refl
 
-  pub list-4 : sized t ≡ true → zoneRoom t ≤ z → listRefusal t z room ≡ 4
-  unfolding listRefusal
-  list-4 e h = rw (e, le-ltb z (zoneRoom t) h)
+  list-room : removeRefusal t z ≡ 0 → listRefusal t z room ≡ unless (leb (carRoom t) room) 11 0
+  unfolding listRefusal removeRefusal
+  list-room e =
+      let a = unless→ (sized t) 2 _ e in
+      let b = unless→ (ltb z (zoneRoom t)) 3 _ (a .1) in
+      let c = unless→ (stands t z) 6 _ (b .1) in
+      rw (a .0, b .0, c .0)
 
-  pub list-7 : sized t ≡ true → z < zoneRoom t → stands t z ≡ false → listRefusal t z room ≡ 7
-  unfolding listRefusal
-  list-7 e h g = rw (e, lt-ltb z (zoneRoom t) h, g)
+  pub list-11 : removeRefusal t z ≡ 0 → room < carRoom t → listRefusal t z room ≡ 11
+  list-11 e l = list-room e ∙ rw (lt-leb (carRoom t) room l)
 
-  pub list-11 : sized t ≡ true → z < zoneRoom t → stands t z ≡ true → room < carRoom t → listRefusal t z room ≡ 11
-  unfolding listRefusal
-  list-11 e h g l = rw (e, lt-ltb z (zoneRoom t) h, g, lt-leb (carRoom t) room l)
-
-  pub list-0 : sized t ≡ true → z < zoneRoom t → stands t z ≡ true → carRoom t ≤ room → listRefusal t z room ≡ 0
-  unfolding listRefusal
-  list-0 e h g l = rw (e, lt-ltb z (zoneRoom t) h, g, le-leb (carRoom t) room l)
+  pub list-0 : removeRefusal t z ≡ 0 → carRoom t ≤ room → listRefusal t z room ≡ 0
+  list-0 e l = list-room e ∙ rw (le-leb (carRoom t) room l)
 
   -- a roster that is listed has its row in the tables and room in the buffer
   pub record Taken : Type 0 where

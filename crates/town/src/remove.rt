@@ -4,7 +4,8 @@ ghost use mathlib.Core.Path.{_≡_};
 ghost use Rattle.tables.specs.Tables.{tables};
 ghost use Rattle.town.specs.Promises.{Removes, removeRefusal};
 
-fn refuse_remove(
+// What a call on a standing zone asks: 3, 4, 7.
+pub fn refuse_zone(
     head: &[u32],
     zones: &[u32],
     cars: &[u32],
@@ -41,7 +42,7 @@ pub fn remove_zone(
 ) -> Removed
     ensures { λ r. ⌜ Removes (tables (now (head .entry)) (now (zones .entry)) (now (cars .entry)) (now (spots .entry)) (now (starts .entry)) (now (entries .entry)) (now (rosters .entry))) (tables (now (head .entry)) (now (zones .exit)) (now (cars .entry)) (now (spots .entry)) (now (starts .exit)) (now (entries .exit)) (now (rosters .exit))) zone r ⌝ }
 {
-    let refusal = refuse_remove(head, zones, cars, spots, starts, entries, rosters, zone);
+    let refusal = refuse_zone(head, zones, cars, spots, starts, entries, rosters, zone);
     if refusal != 0 {
         return Removed::Refused(refusal);
     }

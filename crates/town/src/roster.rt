@@ -1,5 +1,6 @@
 // The cars of a zone.
 use crate::answers::Listed;
+use crate::remove::refuse_zone;
 ghost use Prim.Native.Nat.{_≤_};
 ghost use mathlib.Core.Path.{_≡_};
 ghost use Rattle.tables.specs.Tables.{tables};
@@ -18,14 +19,9 @@ fn refuse_list(
 ) -> u32
     ensures { λ r. ⌜ r ≡ listRefusal (tables (now (head .entry)) (now (zones .entry)) (now (cars .entry)) (now (spots .entry)) (now (starts .entry)) (now (entries .entry)) (now (rosters .entry))) zone room ⌝ }
 {
-    if !tables::sized(head, zones, cars, spots, starts, entries, rosters) {
-        return 3;
-    }
-    if tables::zone_room(head) <= zone {
-        return 4;
-    }
-    if !tables::stands_in(zones, zone as usize) {
-        return 7;
+    let refusal = refuse_zone(head, zones, cars, spots, starts, entries, rosters, zone);
+    if refusal != 0 {
+        return refusal;
     }
     if room < tables::car_room(head) as usize {
         return 11;

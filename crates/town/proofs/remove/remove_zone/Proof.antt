@@ -7,8 +7,8 @@ use borrow.Author.Needs.{needs}
 use Rattle.town.proofs.remove.remove_zone.Statement.{statement}
 use Rattle.town.proofs.remove.remove_zone.Tie as tie
 
-refuse-remove-requires : tie.Need-refuse-remove-requires
-refuse-remove-requires c κs = search needs
+refuse-zone-requires : tie.Need-refuse-zone-requires
+refuse-zone-requires c κs = search needs
 
 same-length : tie.Need-same-length
 same-length c = search needs
@@ -26,13 +26,13 @@ abbrev whole : tie.Start → Tables
 whole c = tables (c .args .head .now) (c .args .zones .now) (c .args .cars .now) (c .args .spots .now) (c .args .starts .now) (c .args .entries .now) (c .args .rosters .now)
 
 taken : (c : tie.Else1) → removeRefusal (whole (c .before .before .before .before .before .before .before .before .before .before .before .before .before)) (c .before .before .before .before .before .before .before .before .before .before .before .before .before .args .zone) ≡ 0
-taken c = sym (c .before .refuse-remove .ensures) ∙ c .if1 .left
+taken c = sym (c .before .refuse-zone .ensures) ∙ c .if1 .left
 
 there : (c : tie.Else1) → There (whole (c .before .before .before .before .before .before .before .before .before .before .before .before .before)) (c .before .before .before .before .before .before .before .before .before .before .before .before .before .args .zone)
 there c = remove-taken (whole (c .before .before .before .before .before .before .before .before .before .before .before .before .before)) (c .before .before .before .before .before .before .before .before .before .before .before .before .before .args .zone) (taken c)
 
 returns : tie.Need-returns
-returns c = removes-refused (whole (c .before .before .before .before .before .before .before .before .before .before .before .before .before)) _ _ (c .if1 .taken) (c .before .refuse-remove .ensures)
+returns c = removes-refused (whole (c .before .before .before .before .before .before .before .before .before .before .before .before .before)) _ _ (c .if1 .taken) (c .before .refuse-zone .ensures)
 
 car-room-requires : tie.Need-car-room-requires
 car-room-requires c κs = omega (arith, there c .size .lengths .head)
@@ -68,7 +68,7 @@ pub remove-zone-spec : {M : Type 1} → statement M
 remove-zone-spec =
     tie.close
     (tie.spec
-    refuse-remove-requires
+    refuse-zone-requires
     same-length
     same-length-2
     same-length-3

@@ -8,8 +8,8 @@ use Rattle.tables.specs.CheckLaws.{sized→}
 use Rattle.tables.specs.RecordLaws.{stands-is}
 use Rattle.town.specs.RemoveLaws.{remove-3, remove-4, remove-7, remove-0}
 use borrow.Author.Needs.{needs}
-use Rattle.town.proofs.remove.refuse_remove.Statement.{statement}
-use Rattle.town.proofs.remove.refuse_remove.Tie as tie
+use Rattle.town.proofs.remove.refuse_zone.Statement.{statement}
+use Rattle.town.proofs.remove.refuse_zone.Tie as tie
 
 sized-requires : tie.Need-sized-requires
 sized-requires c κs = search needs
@@ -38,8 +38,8 @@ returns-3 c = sym (remove-7 (whole (c .before .before .before .before .before .b
 returns-4 : tie.Need-returns-4
 returns-4 c = sym (remove-0 (whole (c .before .before .before .before .before .before .before .before .before .before .before .before .before)) _ (is-sized (c .before .before .before .before)) (omega (arith, c .before .before .before .zone-room .ensures, c .before .before .if2 .left)) (sym (stands-is (whole (c .before .before .before .before .before .before .before .before .before .before .before .before .before)) _) ∙ sym (c .before .stands-in .ensures) ∙ not-false _ (c .if3 .left)))
 
-pub refuse-remove-spec : {M : Type 1} → statement M
-refuse-remove-spec =
+pub refuse-zone-spec : {M : Type 1} → statement M
+refuse-zone-spec =
     tie.close
     (tie.spec
     sized-requires
