@@ -1,5 +1,5 @@
 -- Document 01's starred cases, one table: each row is what the definitions give and what the document says.
-use Prim.Native.Nat.{ℕ}
+use Prim.Native.Nat.{ℕ, _*_, _%_}
 use mathlib.Core.Path.{_≡_, refl}
 use mathlib.Core.List.{List, [], _∷_, _++_, map}
 use lib.ListN.{length}
@@ -7,7 +7,7 @@ use lib.Ieee.{binary32, isNan, ofBits, toBits}
 use Rattle.order.specs.Order.{upto, span, keep}
 use Rattle.squares.specs.declared.shape.Shape.{Shape}
 use Rattle.squares.specs.declared.shape.Rect.{Rect}
-use Rattle.squares.specs.Squares.{number, cornerX, cornerY, squares, interleave, evens}
+use Rattle.squares.specs.Squares.{number, differ, cornerX, cornerY, squares, interleave, evens}
 use Rattle.squares.specs.Promises.{numberRefusal}
 use Rattle.squares.specs.Cut.{code, cut, cutTo, cutOn, inCut, inside}
 use Rattle.position.specs.declared.Coordinate.{Coordinate}
@@ -46,6 +46,8 @@ table =
     ∷ record { given = cut town (rect 0 0 16 16); says = upto 16 }
     ∷ record { given = cut town (rect 0 0 1 1); says = code 2 0 ∷ [] }
     ∷ record { given = squares town ∷ []; says = 336 ∷ [] }
+    ∷ record { given = 2 * length (differ town 8 8 9 8) ∷ []; says = 2 ∷ [] }
+    ∷ record { given = 2 * length (differ town 1 1 5 1) ∷ number town 2 1 1 % 16 ∷ number town 2 5 1 % 16 ∷ []; says = 6 ∷ 3 ∷ 3 ∷ [] }
     ∷ record { given = cut row (rect 1 0 2 2); says = 1 ∷ 2 ∷ 4 ∷ 5 ∷ [] }
     ∷ record { given = cellAt 0x3F7F_FFFF ++ cellAt 0x0000_0001; says = 0 ∷ 0 ∷ [] }
     ∷ record { given = cellAt 0x3F80_0000; says = 1 ∷ [] }

@@ -1,5 +1,6 @@
 // Document 01's cases, run through the calls. Each line is what was asked and what was answered:
 // the refusal number, or 0 and the values.
+mod whole; // whole.rt: the whole case of the log
 mod small; // small.rt: a small town, sound and then with one number wrong at a time
 
 use libc::STDOUT_FILENO;
@@ -294,4 +295,5 @@ fn main() {
     near_powers();
     spots(town);
     small::small_town();
+    whole::whole_case(town);
 }

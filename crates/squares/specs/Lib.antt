@@ -7,6 +7,7 @@ pub mod Descent
 pub mod PowerLaws
 pub mod ShapeLaws
 pub mod SquareLaws
+pub mod DifferLaws
 pub mod CornerLaws
 pub mod RectLaws
 pub mod CutLaws

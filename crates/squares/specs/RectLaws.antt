@@ -1,12 +1,12 @@
 -- Where a cell and a square lie to a rectangle: the tests and what they say.
-use Prim.Native.Nat.{ℕ, _+_, _*_, _<_, _≤_}
-use mathlib.Core.Path.{_≡_}
+use Prim.Native.Nat.{ℕ, _+_, _-_, _*_, _<_, _≤_}
+use mathlib.Core.Path.{_≡_, sym}
 use mathlib.Core.Bool.{Bool, true, false, _&&_}
 use native.Mathlib.Omega.{arith}
 use native.Mathlib.Nat.{mul-le-mul-right}
 use lib.Dec.{leb, ltb}
-use borrow.Author.Tests.{le-leb, lt-ltb, leb-true, ltb-true}
-use Rattle.order.specs.TestLaws.{true-not-false, and→, fails}
+use borrow.Author.Tests.{le-leb, lt-leb, lt-ltb, le-ltb, leb-true, ltb-true}
+use Rattle.order.specs.TestLaws.{true-not-false, and→, fails, both-ways}
 use Rattle.squares.specs.declared.shape.Rect.{Rect}
 use Rattle.squares.specs.Cut.{holds, within}
 use Rattle.squares.specs.Descent.{meets}
@@ -90,3 +90,18 @@ module _ (r : Rect) (x y d p q : ℕ) (hp : p ≤ 1) (hq : q ≤ 1) where
 
   pub quarter-within : within r x y (2 * d) ≡ true → within r (x + p * d) (y + q * d) d ≡ true
   quarter-within e = let w = within→ r x y (2 * d) e in →within r (x + p * d) (y + q * d) d (omega (arith, across, up))
+
+-- ---- a cell tested from its distance to the corner
+
+module _ (r : Rect) (x y : ℕ) where
+  pub held-west : x < r .a → false ≡ holds r x y
+  held-west h = rw (lt-leb (r .a) x h)
+
+  pub held-south : y < r .b → false ≡ holds r x y
+  held-south h = sym (fails (holds r x y) (λ (e : holds r x y ≡ true). omega (arith, holds→ r x y e .south)))
+
+  pub held-east : r .a ≤ x → r .w ≤ x - r .a → false ≡ holds r x y
+  held-east h g = rw (le-leb (r .a) x h, le-ltb x (r .a + r .w) (omega arith))
+
+  pub held-north : r .a ≤ x → r .b ≤ y → x - r .a < r .w → ltb (y - r .b) (r .h) ≡ holds r x y
+  held-north h l g = both-ways (ltb (y - r .b) (r .h)) (holds r x y) (λ (e : ltb (y - r .b) (r .h) ≡ true). →holds r x y (record { west = h; east = omega arith; south = l; north = omega (arith, ltb-true (y - r .b) (r .h) e) })) (λ (e : holds r x y ≡ true). lt-ltb (y - r .b) (r .h) (omega (arith, holds→ r x y e .north)))

@@ -1,7 +1,9 @@
 -- The squares of a town and their numbers, as document 01 has them. A cell is (x, y), a level i.
 use Prim.Native.Nat.{ℕ, zero, suc, _+_, _-_, _*_, _/_, _%_, _^_}
-use mathlib.Core.Bool.{Bool, _&&_}
+use mathlib.Core.Bool.{Bool, _&&_, not}
+use mathlib.Core.List.{List}
 use lib.Dec.{leb, ltb, eqb}
+use Rattle.order.specs.Order.{upto, keep}
 use Rattle.squares.specs.declared.shape.Shape.{Shape}
 use Rattle.squares.specs.declared.numbers.Square.{Square}
 use Rattle.squares.specs.Shape.{side, width, height}
@@ -55,3 +57,10 @@ isCorner s i x y = leb i (s .k) && (ltb x (width s) && (ltb y (height s) && (eqb
 -- n is the number of a square on level i
 abbrev pub isNumber : Shape → ℕ → ℕ → Bool
 isNumber s i n = leb i (s .k) && ltb n (squaresOn s i)
+
+-- the levels on which two cells lie in different squares
+abbrev pub differAt : Shape → ℕ → ℕ → ℕ → ℕ → ℕ → Bool
+differAt s x y x′ y′ i = not (eqb (number s i x y) (number s i x′ y′))
+
+abbrev pub differ : Shape → ℕ → ℕ → ℕ → ℕ → List ℕ
+differ s x y x′ y′ = keep (differAt s x y x′ y′) (upto (s .k + 1))

@@ -8,6 +8,7 @@ mod cut; // cut.rt: the cut of a rectangle into a lent buffer
 pub use cut::Cut;
 pub use cut::cut_count;
 pub use cut::cut_rectangle;
+pub use descent::cut_levels;
 pub use numbers::Located;
 pub use numbers::Numbered;
 pub use numbers::Square;

@@ -8,6 +8,7 @@ ghost use mathlib.Core.Path.{_≡_};
 ghost use Prim.Native.Nat.{_*_, _<_, _≤_};
 ghost use Rattle.squares.specs.Shape.{Allowed, allowed, shaped, side, width, height, fits};
 ghost use Rattle.squares.specs.Squares.{sideOn, squaresOn, squares, block, number, isCorner, squareOf};
+ghost use Rattle.squares.specs.Cut.{holds};
 ghost use Rattle.squares.specs.Leaves.{Positive, Below, OnMap, OnLevel};
 
 // k, P and Q of a town: blocks of side 2^k, P of them west to east and Q south to north.
@@ -218,5 +219,23 @@ impl Shape {
             y: row * side,
             side,
         }
+    }
+}
+
+impl Rect {
+    // Whether a cell lies in the rectangle, of any numbers.
+    pub fn holds(self, x: u32, y: u32) -> bool
+        ensures { λ r. ⌜ r ≡ holds self x y ⌝ }
+    {
+        if x < self.a {
+            return false;
+        }
+        if y < self.b {
+            return false;
+        }
+        if self.w <= x - self.a {
+            return false;
+        }
+        y - self.b < self.h
     }
 }

@@ -1,10 +1,10 @@
 -- What the functions that change one table make of it, over plain lists.
-use Prim.Native.Nat.{ℕ, _-_, _*_, _%_, _≤_}
+use Prim.Native.Nat.{ℕ, _+_, _-_, _*_, _%_, _≤_}
 use mathlib.Core.Path.{_≡_}
 use mathlib.Core.Bool.{Bool, not}
-use mathlib.Core.List.{List, _++_, map}
+use mathlib.Core.List.{List, [], _∷_, _++_, map}
 use lib.Dec.{eqb}
-use lib.ListN.{length, take, replicate}
+use lib.ListN.{length, take, set, replicate}
 use lib.Seq.{sets}
 use Rattle.order.specs.Order.{upto, keep}
 use Rattle.order.specs.Buffer.{rank}
@@ -34,3 +34,8 @@ pub record Packed (z : ℕ) (e e′ : List ℕ) (r : ℕ) : Type 0 where
 -- zone z's row of so many bytes set to 0
 abbrev pub rowCleared : List ℕ → ℕ → ℕ → List ℕ
 rowCleared rosters z many = sets rosters (z * many) (replicate many 0)
+
+-- car c's byte set to v in the row of each zone of a list, rows of so many bytes
+unfoldable pub stamped : List ℕ → List ℕ → ℕ → ℕ → ℕ → List ℕ
+stamped rosters [] many c v = rosters
+stamped rosters (z ∷ zs) many c v = stamped (set rosters (z * many + c) v) zs many c v

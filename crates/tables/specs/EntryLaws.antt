@@ -6,10 +6,10 @@ use mathlib.Core.List.{List}
 use native.Mathlib.Omega.{arith}
 use native.Mathlib.Numerals.{add-one}
 use native.Mathlib.Nat.{mul-one, mul-left-comm, pow-succ', le-trans}
-use lib.Dec.{ltb, eqb}
+use lib.Dec.{eqb}
 use lib.Ieee.{Float}
 use lib.ListN.{getD}
-use borrow.Author.Tests.{lt-ltb, le-ltb, le-leb, lt-leb}
+use borrow.Author.Tests.{lt-ltb, le-ltb}
 use Rattle.order.specs.TestLaws.{true-not-false}
 use Rattle.squares.specs.declared.shape.Shape.{Shape}
 use Rattle.squares.specs.declared.shape.Rect.{Rect}
@@ -27,7 +27,7 @@ use Rattle.tables.specs.declared.entry.Leveled.{Leveled}
 use Rattle.tables.specs.Tables.{rectIn, spotIn}
 use Rattle.tables.specs.Derived.{before, levelAt, numberAt, bit}
 use Rattle.tables.specs.PlaceLaws.{before-more, before-none, before-all, level-place, number-place}
-use Rattle.tables.specs.Tests.{sum, zoneStands, zoneFits, carFits, keyRight, cutSize, has, byteRight, InTown, At, Both, Fitting, SizeOf, Small, Riding}
+use Rattle.tables.specs.Tests.{sum, zoneStands, zoneFits, carFits, keyRight, cutSize, has, byteRight, InTown, At, Both, SizeOf, Riding}
 
 -- ---- down the levels to a place
 
@@ -189,26 +189,6 @@ module _ (s : Shape) (cars : List ℕ) (spots : List Float) (c : ℕ) where
   car-on h f x y e = rw (lt-ltb 0 (getD cars c 0) (omega arith), on-town s (spotIn spots c) x y (→allowed s h) e .0)
 
 -- ---- a byte of the rosters
-
-module _ (r : Rect) (x y : ℕ) where
-  pub held-west : x < r .a → false ≡ holds r x y
-  held-west h = rw (lt-leb (r .a) x h)
-
-  pub held-east : r .a ≤ x → r .a + r .w ≤ x → false ≡ holds r x y
-  held-east h g = rw (le-leb (r .a) x h, le-ltb x (r .a + r .w) g)
-
-  pub held-south : r .a ≤ x → x < r .a + r .w → y < r .b → false ≡ holds r x y
-  held-south h g l = rw (le-leb (r .a) x h, lt-ltb x (r .a + r .w) g, lt-leb (r .b) y l)
-
-  pub held-north : r .a ≤ x → x < r .a + r .w → r .b ≤ y → ltb y (r .b + r .h) ≡ holds r x y
-  held-north h g l = rw (le-leb (r .a) x h, lt-ltb x (r .a + r .w) g, le-leb (r .b) y l)
-
--- a standing zone's sums are small
-pub small-zone : (s : Shape) (zones : List ℕ) (Z z : ℕ) (r : Rect) → Fitting s zones Z → r ≡ rectIn zones z → zoneStands zones z ≡ true → Small r
-small-zone s zones Z z r h e f =
-    let g = h .fit z f in
-    let a = h .zoned .shape in
-    rw e (record { east = le-trans (g .wide) (a .wide); north = le-trans (g .high) (a .high) })
 
 module _ (s : Shape) (zones cars : List ℕ) (spots : List Float) (z c : ℕ) where
   pub has-away : getD cars c 0 ≡ 0 → false ≡ has s zones cars spots z c

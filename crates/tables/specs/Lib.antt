@@ -24,3 +24,13 @@ pub mod DropLaws
 pub mod RankLaws
 pub mod RosterLaws
 pub mod StepLaws
+pub mod CarLaws
+pub mod StampLaws
+pub mod Merge
+pub mod MergeLaws
+pub mod Keys
+pub mod KeyLaws
+pub mod SetLaws
+pub mod Inside
+pub mod InsideLaws
+pub mod AddLaws

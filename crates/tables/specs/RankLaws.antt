@@ -85,7 +85,7 @@ module _ {s l s′ : List ℕ} {at p : ℕ} (k : Ranking s l s′ at p) where
 
 -- ---- on tables
 
-map-same : (f g : ℕ → ℕ) (l : List ℕ) → ((x : ℕ) → List·Memᴰ x l → f x ≡ g x) → map f l ≡ map g l
+pub map-same : (f g : ℕ → ℕ) (l : List ℕ) → ((x : ℕ) → List·Memᴰ x l → f x ≡ g x) → map f l ≡ map g l
 map-same f g [] h = refl
 map-same f g (x ∷ l) h = rw (h x (List·Memᴰ·head refl), map-same f g l (λ y m. h y (List·Memᴰ·tail m)))
 

@@ -81,10 +81,10 @@ module _ (t : Tables) (z c : ℕ) where
 abbrev pub rosterRow : Tables → ℕ → List ℕ
 rosterRow t z = map (λ (c : ℕ). bit (rosterHas t z c)) (upto (carRoom t))
 
-byte-at : (t : Tables) (z c : ℕ) → z < zoneRoom t → c < carRoom t → getD (rostersOf t) (z * carRoom t + c) 0 ≡ bit (rosterHas t z c)
+pub byte-at : (t : Tables) (z c : ℕ) → z < zoneRoom t → c < carRoom t → getD (rostersOf t) (z * carRoom t + c) 0 ≡ bit (rosterHas t z c)
 byte-at t z c g l = map-span (λ (i : ℕ). bit (rosterHas t (i / carRoom t) (i % carRoom t))) 0 0 (zoneRoom t * carRoom t) (z * carRoom t + c) (digits-lt g l) ∙ rw (zero-add (z * carRoom t + c), digits-div z l, digits-mod z l)
 
-length-rosters : (t : Tables) → length (rostersOf t) ≡ zoneRoom t * carRoom t
+pub length-rosters : (t : Tables) → length (rostersOf t) ≡ zoneRoom t * carRoom t
 length-rosters t = length-map (upto (zoneRoom t * carRoom t)) (λ (i : ℕ). bit (rosterHas t (i / carRoom t) (i % carRoom t))) ∙ length-span 0 (zoneRoom t * carRoom t)
 
 length-row : (t : Tables) (z : ℕ) → length (rosterRow t z) ≡ carRoom t

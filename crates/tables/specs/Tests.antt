@@ -149,8 +149,3 @@ pub record Both (s : Shape) (r : Rect) (i n : ℕ) : Type 0 where
 pub record SizeOf (s : Shape) (zones : List ℕ) (z n : ℕ) : Type 0 where
   pub is : n ≡ cutSize s zones z
   pub few : n ≤ 87381
-
--- a rectangle whose sums are small
-pub record Small (r : Rect) : Type 0 where
-  pub east : r .a + r .w ≤ 256
-  pub north : r .b + r .h ≤ 256

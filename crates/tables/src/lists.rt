@@ -103,7 +103,7 @@ pub fn entries_right(s: Shape, Z: usize, zones: &[u32], entries: &[u32], u: usiz
 // ---- starts
 
 // Whether the last of the first n entries is below a key.
-fn ends_below(entries: &[u32], key: usize, n: usize) -> bool
+pub fn ends_below(entries: &[u32], key: usize, n: usize) -> bool
     requires { ⌜ n ≤ length (now entries) ⌝ }
     ensures { λ r. ⌜ r ≡ endsBelow (now (entries .entry)) key n ⌝ }
 {

@@ -1,10 +1,11 @@
 // A row of the rosters.
 use crate::fill::fill_bytes;
-ghost use Prim.Native.Nat.{_*_, _≤_};
+ghost use Prim.Native.Nat.{_+_, _*_, _≤_};
 ghost use mathlib.Core.Path.{_≡_};
+ghost use lib.ListN.{set};
 ghost use Rattle.order.specs.Buffer.{Wrote};
 ghost use Rattle.tables.specs.Rows.{row, Adds, RowThere};
-ghost use Rattle.tables.specs.Edits.{rowCleared};
+ghost use Rattle.tables.specs.Edits.{rowCleared, stamped};
 
 // Stores car c where its byte is not 0. Answers the next place.
 fn add_marked(byte: u8, c: u32, out: &mut [u32], next: usize) -> usize
@@ -43,4 +44,33 @@ pub fn clear_row(rosters: &mut [u8], z: usize, many: u32)
     let from = z * many as usize;
     let end = from + many as usize;
     fill_bytes(&mut rosters[from..end], 0);
+}
+
+// A byte is stored at place n where the bytes have that place.
+fn store_byte(bytes: &mut [u8], n: usize, v: u8)
+    ensures { λ _. ⌜ now (bytes .exit) ≡ set (now (bytes .entry)) n v ⌝ }
+{
+    if n < bytes.len() {
+        bytes[n] = v;
+    }
+}
+
+// Where car c's byte stands in zone z's row, rows of so many bytes.
+fn byte_at(z: u32, many: u32, c: u32) -> usize
+    requires { ⌜ many ≤ 1024 ⌝ }
+    ensures { λ r. ⌜ r ≡ z * many + c ⌝ }
+{
+    z as usize * many as usize + c as usize
+}
+
+// Sets car c's byte in the row of each zone of a list, rows of so many bytes.
+pub fn stamp_rows(rosters: &mut [u8], zones: &[u32], many: u32, c: u32, v: u8)
+    requires { ⌜ many ≤ 1024 ⌝ }
+    ensures { λ _. ⌜ now (rosters .exit) ≡ stamped (now (rosters .entry)) (now (zones .entry)) many c v ⌝ }
+{
+    let mut i = 0;
+    while i < zones.len() {
+        store_byte(rosters, byte_at(zones[i], many, c), v);
+        i += 1;
+    }
 }

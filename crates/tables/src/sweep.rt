@@ -9,17 +9,15 @@ use crate::records::spot_in;
 use crate::records::zone_room;
 use position::Spot;
 use position::locate;
-use squares::Rect;
 use squares::Shape;
 ghost use Prim.Native.Nat.{_*_, _<_};
 ghost use mathlib.Core.Path.{_≡_};
 ghost use lib.Dec.{eqb};
 ghost use lib.ListN.{length};
-ghost use Rattle.squares.specs.Cut.{holds};
 ghost use Rattle.tables.specs.Tables.{tables};
 ghost use Rattle.tables.specs.Check.{Sized};
 ghost use Rattle.tables.specs.Derived.{bit};
-ghost use Rattle.tables.specs.Tests.{every, zoneFits, carFits, has, byteRight, sound, Zoned, Fitting, Parked, Riding, Small};
+ghost use Rattle.tables.specs.Tests.{every, zoneFits, carFits, has, byteRight, sound, Zoned, Fitting, Parked, Riding};
 
 // ---- zones and cars
 
@@ -81,23 +79,6 @@ fn cars_fit(s: Shape, cars: &[u32], spots: &[f32], C: usize) -> bool
 
 // ---- rosters
 
-// Whether a rectangle in the town holds a cell.
-fn held(r: Rect, x: u32, y: u32) -> bool
-    requires { ⌜ Small r ⌝ }
-    ensures { λ t. ⌜ t ≡ holds r x y ⌝ }
-{
-    if x < r.a {
-        return false;
-    }
-    if r.a + r.w <= x {
-        return false;
-    }
-    if y < r.b {
-        return false;
-    }
-    y < r.b + r.h
-}
-
 // Whether a zone's roster has a car.
 fn has(
     s: Shape,
@@ -125,7 +106,7 @@ fn has(
     let Spot::Cell(column, row) = locate(s, spot_in(spots, c)) else {
         return false;
     };
-    held(r, column, row)
+    r.holds(column, row)
 }
 
 // Whether each byte of the rosters is right.

@@ -4,5 +4,8 @@ pub mod OpenLaws
 pub mod JudgeLaws
 pub mod Unique
 pub mod Looks
+pub mod LookLaws
 pub mod SearchLaws
 pub mod RemoveLaws
+pub mod ReportLaws
+pub mod AddLaws

@@ -83,11 +83,11 @@ map-same f v [] h = refl
 map-same f v (x ∷ l) h = rw (h x, map-same f v l h)
 
 module _ (s : Shape) (Z C E : ℕ) (a : Allowed s) (m : Roomy Z C E) where
-  none-stands : (z : ℕ) → stands (emptyTown s Z C E) z ≡ false
+  pub none-stands : (z : ℕ) → stands (emptyTown s Z C E) z ≡ false
   unfolding stands
   none-stands z = rw (zeros (4 * Z) (4 * z + 2))
 
-  none-placed : (c : ℕ) → placed (emptyTown s Z C E) c ≡ false
+  pub none-placed : (c : ℕ) → placed (emptyTown s Z C E) c ≡ false
   unfolding placed
   none-placed c = rw (zeros C c)
 

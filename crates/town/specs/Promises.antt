@@ -3,28 +3,34 @@
 -- writes on unsound ones is the documents' one gap.
 use Prim.Native.Nat.{ℕ, _+_, _*_}
 use mathlib.Core.Path.{_≡_}
+use mathlib.Core.Bool.{Bool, cond, not, _&&_}
 use mathlib.Core.List.{List, [], _∷_}
 use lib.Dec.{leb, ltb}
 use lib.Ieee.{binary32, ofBits, toBits}
 use lib.ListN.{length, replicate}
 use Rattle.order.specs.Order.{upto, keep, over}
 use Rattle.squares.specs.declared.shape.Shape.{Shape}
-use Rattle.squares.specs.Shape.{allowed}
-use Rattle.squares.specs.Squares.{squares}
+use Rattle.squares.specs.declared.shape.Rect.{Rect}
+use Rattle.squares.specs.Shape.{allowed, fits}
+use Rattle.squares.specs.Squares.{squares, differ}
+use Rattle.squares.specs.Cut.{cut}
 use Rattle.squares.specs.Promises.{unless, told}
 use Rattle.position.specs.declared.Position.{Position}
 use Rattle.position.specs.Answer.{onTown, columnOf, rowOf}
-use Rattle.tables.specs.Tables.{Tables, headOf, shapeOf, zoneRoom, carRoom, stands, placed, spotOf, zoneHolds, rosterHas}
+use Rattle.tables.specs.Tables.{Tables, headOf, shapeOf, zoneRoom, carRoom, entryRoom, stands, placed, spotOf, zoneHolds, rosterHas}
 use Rattle.tables.specs.Check.{roomy, long, sized}
-use Rattle.tables.specs.Derived.{free}
+use Rattle.tables.specs.Derived.{free, used}
 use Rattle.tables.specs.Sound.{Sound}
-use Rattle.tables.specs.Steps.{removeStep}
+use Rattle.tables.specs.Steps.{addStep, removeStep, reportStep, leaveStep}
 use Rattle.town.specs.declared.answers.Opened.{Opened}
 use Rattle.town.specs.declared.answers.Traced.{Traced}
 use Rattle.town.specs.declared.answers.Judged.{Judged}
 use Rattle.town.specs.declared.answers.Searched.{Searched}
 use Rattle.town.specs.declared.answers.Listed.{Listed}
 use Rattle.town.specs.declared.answers.Removed.{Removed}
+use Rattle.town.specs.declared.answers.Added.{Added}
+use Rattle.town.specs.declared.answers.Reported.{Reported}
+use Rattle.town.specs.declared.answers.Departed.{Departed}
 
 -- ---- open
 
@@ -136,3 +142,80 @@ pub record Removes (t t′ : Tables) (z : ℕ) (answer : Removed) : Type 0 where
   pub accepted : removeRefusal t z ≡ 0 → answer ≡ Removed.Done
   pub done : removeRefusal t z ≡ 0 → Sound t → t′ ≡ removeStep t z
   pub says : removedSays answer ≡ told (removeRefusal t z) []
+
+-- ---- add a zone
+
+-- what comes before 12
+unfoldable pub addBars : Tables → ℕ → Rect → ℕ → ℕ
+addBars t z r rest = unless (sized t) 3 (unless (ltb z (zoneRoom t)) 4 (unless (not (stands t z)) 6 (unless (fits (shapeOf t) r) 9 rest)))
+
+-- the standing entries and the new cut have room
+abbrev pub hasRoom : Tables → Rect → Bool
+hasRoom t r = leb (length (used t) + length (cut (shapeOf t) r)) (entryRoom t)
+
+abbrev pub addRefusal : Tables → ℕ → Rect → ℕ
+addRefusal t z r = addBars t z r (unless (hasRoom t r) 12 0)
+
+abbrev pub addedSays : Added → List ℕ
+addedSays (Added.Refused n) = n ∷ 0 ∷ 0 ∷ []
+addedSays (Added.Done squares cars) = 0 ∷ squares ∷ cars ∷ []
+
+-- on unsound tables 12 is part of the gap, and given there it changes nothing either
+pub record Adds (t t′ : Tables) (z : ℕ) (r : Rect) (answer : Added) : Type 0 where
+  pub refused : (addRefusal t z r ≡ 0 → ⊥) → (addBars t z r 0 ≡ 0 → Sound t) → (answer ≡ Added.Refused (addRefusal t z r)) × (t′ ≡ t)
+  pub accepted : addBars t z r 0 ≡ 0 → (n : ℕ) → answer ≡ Added.Refused n → (n ≡ 12) × (t′ ≡ t)
+  pub done : addRefusal t z r ≡ 0 → Sound t → (answer ≡ Added.Done (length (cut (shapeOf t) r)) (length (roster (addStep t z r) z))) × (t′ ≡ addStep t z r)
+  pub says : (addBars t z r 0 ≡ 0 → Sound t) → addedSays answer ≡ told (addRefusal t z r) (length (cut (shapeOf t) r) ∷ length (roster (addStep t z r) z) ∷ [])
+
+-- ---- report
+
+unfoldable pub reportRefusal : Tables → ℕ → Position → ℕ → ℕ → ℕ
+reportRefusal t c p room room′ = unless (sized t) 3 (unless (ltb c (carRoom t)) 5 (unless (onTown (shapeOf t) p) 10 (unless (leb (zoneRoom t) room && leb (zoneRoom t) room′) 11 0)))
+
+-- zone z holds a position's cell
+abbrev pub heldBy : Tables → Position → ℕ → Bool
+heldBy t p z = zoneHolds t z (columnOf (shapeOf t) p) (rowOf (shapeOf t) p)
+
+-- zones that hold the new cell, and have not the car; zones that have the car, and do not hold the new cell
+abbrev pub entered : Tables → ℕ → Position → List ℕ
+entered t c p = keep (λ (z : ℕ). heldBy t p z && not (rosterHas t z c)) (upto (zoneRoom t))
+
+abbrev pub left : Tables → ℕ → Position → List ℕ
+left t c p = keep (λ (z : ℕ). rosterHas t z c && not (heldBy t p z)) (upto (zoneRoom t))
+
+-- twice the levels on which the car's cell and the new one lie in different squares; for a car off the map, the levels
+abbrev pub squaresLooked : Tables → ℕ → Position → ℕ
+squaresLooked t c p =
+    let s = shapeOf t in
+    let q = spotOf t c in
+    cond (placed t c) (2 * length (differ s (columnOf s q) (rowOf s q) (columnOf s p) (rowOf s p))) (s .k + 1)
+
+abbrev pub reportedSays : Reported → List ℕ
+reportedSays (Reported.Refused n) = n ∷ 0 ∷ 0 ∷ 0 ∷ []
+reportedSays (Reported.Done squares entered left) = 0 ∷ squares ∷ entered ∷ left ∷ []
+
+-- the two buffers are e and l at entry, e′ and l′ at exit
+pub record Reports (t t′ : Tables) (c : ℕ) (p : Position) (e e′ l l′ : List ℕ) (answer : Reported) : Type 0 where
+  pub refused : (reportRefusal t c p (length e) (length l) ≡ 0 → ⊥) → (answer ≡ Reported.Refused (reportRefusal t c p (length e) (length l))) × ((t′ ≡ t) × ((e′ ≡ e) × (l′ ≡ l)))
+  pub accepted : reportRefusal t c p (length e) (length l) ≡ 0 → (n : ℕ) → answer ≡ Reported.Refused n → ⊥
+  pub done : reportRefusal t c p (length e) (length l) ≡ 0 → Sound t → (answer ≡ Reported.Done (squaresLooked t c p) (length (entered t c p)) (length (left t c p))) × ((t′ ≡ reportStep t c p) × ((e′ ≡ over (entered t c p) e) × (l′ ≡ over (left t c p) l)))
+  pub says : (reportRefusal t c p (length e) (length l) ≡ 0 → Sound t) → reportedSays answer ≡ told (reportRefusal t c p (length e) (length l)) (squaresLooked t c p ∷ length (entered t c p) ∷ length (left t c p) ∷ [])
+
+-- ---- leave
+
+unfoldable pub leaveRefusal : Tables → ℕ → ℕ → ℕ
+leaveRefusal t c room = unless (sized t) 3 (unless (ltb c (carRoom t)) 5 (unless (placed t c) 8 (unless (leb (zoneRoom t) room) 11 0)))
+
+-- the zones that have a car, lowest first
+abbrev pub zonesOf : Tables → ℕ → List ℕ
+zonesOf t c = keep (λ (z : ℕ). rosterHas t z c) (upto (zoneRoom t))
+
+abbrev pub departedSays : Departed → List ℕ
+departedSays (Departed.Refused n) = n ∷ 0 ∷ 0 ∷ []
+departedSays (Departed.Done squares left) = 0 ∷ squares ∷ left ∷ []
+
+pub record Leaves (t t′ : Tables) (c : ℕ) (b b′ : List ℕ) (answer : Departed) : Type 0 where
+  pub refused : (leaveRefusal t c (length b) ≡ 0 → ⊥) → (answer ≡ Departed.Refused (leaveRefusal t c (length b))) × ((t′ ≡ t) × (b′ ≡ b))
+  pub accepted : leaveRefusal t c (length b) ≡ 0 → (n : ℕ) → answer ≡ Departed.Refused n → ⊥
+  pub done : leaveRefusal t c (length b) ≡ 0 → Sound t → (answer ≡ Departed.Done (shapeOf t .k + 1) (length (zonesOf t c))) × ((t′ ≡ leaveStep t c) × (b′ ≡ over (zonesOf t c) b))
+  pub says : (leaveRefusal t c (length b) ≡ 0 → Sound t) → departedSays answer ≡ told (leaveRefusal t c (length b)) ((shapeOf t .k + 1) ∷ length (zonesOf t c) ∷ [])

@@ -35,3 +35,21 @@ pub enum Removed {
     Refused(u32),
     Done,
 }
+
+// How many squares the new zone's cut has, and how many cars are inside.
+pub enum Added {
+    Refused(u32),
+    Done(usize, usize),
+}
+
+// How many squares were looked into, and how many zones were written as entered and as left.
+pub enum Reported {
+    Refused(u32),
+    Done(u32, usize, usize),
+}
+
+// How many squares were looked into, and how many zones were written as left.
+pub enum Departed {
+    Refused(u32),
+    Done(u32, usize),
+}

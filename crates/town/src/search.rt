@@ -1,16 +1,11 @@
 // The zones that hold a position.
 use crate::answers::Searched;
+use crate::looks::look_up;
 use position::Position;
 use position::Spot;
-use squares::Shape;
-ghost use Prim.Native.Nat.{_+_};
 ghost use mathlib.Core.Path.{_≡_};
-ghost use lib.ListN.{length};
-ghost use Rattle.squares.specs.Squares.{squares};
-ghost use Rattle.squares.specs.Leaves.{OnMap};
 ghost use Rattle.tables.specs.Tables.{tables};
 ghost use Rattle.town.specs.Promises.{Searches, searchRefusal};
-ghost use Rattle.town.specs.Looks.{Looks};
 
 fn refuse_search(
     head: &[u32],
@@ -35,24 +30,6 @@ fn refuse_search(
         return 11;
     }
     0
-}
-
-// Gathers the zones on the lists of the k + 1 squares of a cell, from the unit cell up.
-fn look(s: Shape, x: u32, y: u32, starts: &[u32], entries: &[u32], out: &mut [u32]) -> Searched
-    requires { ⌜ OnMap s x y ⌝ }
-    requires { ⌜ length (now starts) ≡ squares s + 1 ⌝ }
-    ensures { λ r. ⌜ Looks s x y (now (starts .entry)) (now (entries .entry)) (now (out .entry)) (now (out .exit)) r ⌝ }
-{
-    let mut number = s.number(s.k, x, y);
-    let mut looked = 0u32;
-    let mut found = 0usize;
-    while looked <= s.k {
-        let place = tables::place_of(s, s.k - looked, number);
-        found = tables::gather(starts, entries, place, out, found);
-        number = number / 4;
-        looked += 1;
-    }
-    Searched::Found(looked, found)
 }
 
 // Writes the zones that hold a position, lowest first, and answers how many squares were looked into and how many
@@ -88,5 +65,6 @@ pub fn search_zones(
     let Spot::Cell(x, y) = position::locate(s, p) else {
         return Searched::Refused(10);
     };
-    look(s, x, y, starts, entries, out)
+    let looked = look_up(s, x, y, starts, entries, out);
+    Searched::Found(looked.squares, looked.zones)
 }

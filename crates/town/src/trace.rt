@@ -4,7 +4,8 @@ ghost use mathlib.Core.Path.{_≡_};
 ghost use Rattle.tables.specs.Tables.{tables};
 ghost use Rattle.town.specs.Promises.{Traces, traceRefusal};
 
-fn refuse_trace(
+// What a call on a car that is on the map asks: 3, 5, 8.
+pub fn refuse_trace(
     head: &[u32],
     zones: &[u32],
     cars: &[u32],

@@ -1,13 +1,14 @@
 use Prim.Native.Nat.{_+_, _-_}
 use native.Mathlib.Omega.{arith}
 use Rattle.order.specs.BufferLaws.{front-length, front-within}
-use Rattle.tables.specs.GatherLaws.{Gathering, gather-none, gather-begins, gather-turns, gather-ends}
+use Rattle.tables.specs.GatherLaws.{Gathering, gather-none, gather-begins, gather-turns, gather-ends, put-any}
+use Rattle.tables.specs.Runs.{any}
 use borrow.Author.Needs.{needs}
 use Rattle.tables.proofs.runs.gather.Statement.{statement}
 use Rattle.tables.proofs.runs.gather.Tie as tie
 
 abbrev Inv-loop : tie.InvT-loop
-Inv-loop starts entries p out₀ n end i₀ count₀ out i count = Gathering starts entries p out₀ n out i end count
+Inv-loop starts entries p out₀ n end i₀ count₀ out i count = Gathering any starts entries p out₀ n out i end count
 
 abbrev μ-loop : tie.MeasureT-loop
 μ-loop starts entries p out₀ n end i₀ count₀ out i count = end - i
@@ -25,7 +26,7 @@ cast-end : tie.Need-cast-end Inv-loop μ-loop
 cast-end c = omega (arith, c .shared-slice-known3 .given (c .before .before .before .before .args .p + 1))
 
 returns : tie.Need-returns Inv-loop μ-loop
-returns c = gather-none _ _ _ _ _ (c .before .before .before .before .before .pre .1) (c .if1 .taken)
+returns c = gather-none any _ _ _ _ _ (c .before .before .before .before .before .pre .1) (c .if1 .taken)
 
 mul-i : tie.Need-mul-i Inv-loop μ-loop
 mul-i c = search needs
@@ -37,7 +38,7 @@ cast-i : tie.Need-cast-i Inv-loop μ-loop
 cast-i c = omega (arith, c .shared-slice-known4 .given (c .before .before .before .before .before .before .args .p))
 
 loop-holds : tie.Need-loop-holds Inv-loop μ-loop
-loop-holds c = gather-begins _ _ _ _ _ (c .before .before .before .before .before .before .pre .1) (c .before .if1 .left)
+loop-holds c = gather-begins any _ _ _ _ _ (c .before .before .before .before .before .before .pre .1) (c .before .if1 .left)
 
 mul-put : tie.Need-mul-put Inv-loop μ-loop
 mul-put c = let h = c .before .before .loop .inv .listed in search needs
@@ -55,7 +56,7 @@ loop-less : tie.Need-loop-less Inv-loop μ-loop
 loop-less c = search needs
 
 loop-again : tie.Need-loop-again Inv-loop μ-loop
-loop-again c = gather-turns (c .before .before .before .before .before .before .loop .inv) (c .before .before .before .before .before .loop-test .taken) (c .before .before .put .ensures)
+loop-again c = gather-turns (c .before .before .before .before .before .before .loop .inv) (c .before .before .before .before .before .loop-test .taken) (put-any (front-within (c .before .before .before .before .before .before .loop .inv .front)) (c .before .before .put .ensures))
 
 same-length : tie.Need-same-length Inv-loop μ-loop
 same-length c = front-length (c .before .loop .inv .front)

@@ -1,6 +1,6 @@
 use mathlib.Core.Path.{ap, sym, _∙_}
 use Rattle.position.specs.Answer.{spotOn}
-use Rattle.tables.specs.EntryLaws.{zone-down, zone-up, small-zone, has-away, has-down, has-off, has-on}
+use Rattle.tables.specs.EntryLaws.{zone-down, zone-up, has-away, has-down, has-off, has-on}
 use borrow.Author.Needs.{needs}
 use Rattle.tables.proofs.sweep.has.Statement.{statement}
 use Rattle.tables.proofs.sweep.has.Tie as tie
@@ -35,11 +35,11 @@ enum-told c = search needs
 returns-3 : tie.Need-returns-3
 returns-3 c = has-off _ _ _ _ _ _ _ (c .before .before .before .before .before .before .before .before .before .before .before .before .pre .1 .0) (c .before .before .before .before .before .before .before .if1 .left) (ap (spotOn _) (sym (c .before .before .before .spot-in .ensures)) ∙ sym (c .before .before .locate .ensures) ∙ c .enum-told .given .1)
 
-held-requires : tie.Need-held-requires
-held-requires c κs = small-zone _ _ _ _ _ (c .before .before .before .before .before .before .before .before .before .before .before .before .before .pre .0) (c .before .before .before .before .before .before .before .rect-in .ensures) (zone-up _ _ _ (c .before .before .before .before .before .before .before .rect-in .ensures) (c .before .before .before .before .before .if2 .left))
+holds-requires : tie.Need-holds-requires
+holds-requires c κs = search needs
 
 returns-4 : tie.Need-returns-4
-returns-4 c = c .held .ensures ∙ has-on _ _ _ _ _ _ _ (c .before .before .before .before .before .before .before .before .before .before .before .before .before .before .pre .1 .0) (c .before .before .before .before .before .before .before .before .before .if1 .left) (zone-up _ _ _ (c .before .before .before .before .before .before .before .before .rect-in .ensures) (c .before .before .before .before .before .before .if2 .left)) _ (c .before .before .before .before .before .before .before .before .rect-in .ensures) _ _ (ap (spotOn _) (sym (c .before .before .before .before .before .spot-in .ensures)) ∙ sym (c .before .before .before .before .locate .ensures) ∙ c .before .before .column .given .1)
+returns-4 c = c .holds .ensures ∙ has-on _ _ _ _ _ _ _ (c .before .before .before .before .before .before .before .before .before .before .before .before .before .before .pre .1 .0) (c .before .before .before .before .before .before .before .before .before .if1 .left) (zone-up _ _ _ (c .before .before .before .before .before .before .before .before .rect-in .ensures) (c .before .before .before .before .before .before .if2 .left)) _ (c .before .before .before .before .before .before .before .before .rect-in .ensures) _ _ (ap (spotOn _) (sym (c .before .before .before .before .before .spot-in .ensures)) ∙ sym (c .before .before .before .before .locate .ensures) ∙ c .before .before .column .given .1)
 
 pub has-spec : {M : Type 1} → statement M
 has-spec =
@@ -55,5 +55,5 @@ has-spec =
     enum-known-column
     enum-told
     returns-3
-    held-requires
+    holds-requires
     returns-4)

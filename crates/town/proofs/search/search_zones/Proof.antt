@@ -26,14 +26,14 @@ enum-told c = search needs
 returns-2 : tie.Need-returns-2
 returns-2 c = absurd (search-on _ _ (c .before .before .before .before .before .before .before .before .before .before .before .before .before .before .args .out .now) (sym (c .before .before .before .before .before .refuse-search .ensures) ∙ c .before .before .before .before .if1 .left) (c .before .before .before .shape-in .ensures) (c .before .before .locate .ensures) (c .enum-told .given .1))
 
-look-requires : tie.Need-look-requires
-look-requires c κs = look-asks _ _ (c .before .before .before .before .before .before .before .before .before .before .before .before .before .before .before .before .args .out .now) (sym (c .before .before .before .before .before .before .before .refuse-search .ensures) ∙ c .before .before .before .before .before .before .if1 .left) (c .before .before .before .before .before .shape-in .ensures) (c .before .before .before .before .locate .ensures) (c .before .before .x .given .1)
+look-up-requires : tie.Need-look-up-requires
+look-up-requires c κs = look-asks _ _ (c .before .before .before .before .before .before .before .before .before .before .before .before .before .before .before .before .args .out .now) (sym (c .before .before .before .before .before .before .before .refuse-search .ensures) ∙ c .before .before .before .before .before .before .if1 .left) (c .before .before .before .before .before .shape-in .ensures) (c .before .before .before .before .locate .ensures) (c .before .before .x .given .1)
 
 same-length : tie.Need-same-length
 same-length c = search needs
 
 returns-3 : tie.Need-returns-3
-returns-3 c = searches-found _ _ _ (sym (c .before .before .before .before .before .before .before .before .before .before .refuse-search .ensures) ∙ c .before .before .before .before .before .before .before .before .before .if1 .left) (c .before .before .before .before .before .before .before .before .shape-in .ensures) (c .before .before .before .before .before .before .before .locate .ensures) (c .before .before .before .before .before .x .given .1) (c .before .before .look .ensures)
+returns-3 c = searches-found _ _ _ (sym (c .before .before .before .before .before .before .before .before .before .before .refuse-search .ensures) ∙ c .before .before .before .before .before .before .before .before .before .if1 .left) (c .before .before .before .before .before .before .before .before .shape-in .ensures) (c .before .before .before .before .before .before .before .locate .ensures) (c .before .before .before .before .before .x .given .1) (c .before .before .look-up .ensures)
 
 pub search-zones-spec : {M : Type 1} → statement M
 search-zones-spec =
@@ -46,6 +46,6 @@ search-zones-spec =
     enum-known-x
     enum-told
     returns-2
-    look-requires
+    look-up-requires
     same-length
     returns-3)

@@ -1,0 +1,460 @@
+// The whole case of the log, run through the calls: what each line asks and answers, and whether the tables are sound.
+// Each list is shown with the 7s that stood in its buffer.
+use crate::bracket;
+use crate::end;
+use crate::number;
+use crate::text;
+use position::Position;
+use position::float_of;
+use squares::Rect;
+use squares::Shape;
+use town::Added;
+use town::Departed;
+use town::Judged;
+use town::Listed;
+use town::Opened;
+use town::Removed;
+use town::Reported;
+
+fn say_sound(
+    head: &[u32],
+    zones: &[u32],
+    cars: &[u32],
+    spots: &[f32],
+    starts: &[u32],
+    entries: &[u32],
+    rosters: &[u8],
+) {
+    match town::judge_town(head, zones, cars, spots, starts, entries, rosters) {
+        Judged::Refused(n) => number(n as u64),
+        Judged::Sound => text(b" sound"),
+        Judged::Unsound => text(b" unsound"),
+    }
+    end();
+}
+
+fn open(
+    head: &mut [u32],
+    zones: &mut [u32],
+    cars: &mut [u32],
+    spots: &mut [f32],
+    starts: &mut [u32],
+    entries: &mut [u32],
+    rosters: &mut [u8],
+    s: Shape,
+) {
+    text(b"M ->");
+    match town::open_town(
+        head,
+        zones,
+        cars,
+        spots,
+        starts,
+        entries,
+        rosters,
+        s,
+        16,
+        64,
+        2048,
+    ) {
+        Opened::Refused(n) => number(n as u64),
+        Opened::Done => number(0),
+    }
+    say_sound(head, zones, cars, spots, starts, entries, rosters);
+}
+
+fn add(
+    head: &[u32],
+    zones: &mut [u32],
+    cars: &[u32],
+    spots: &[f32],
+    starts: &mut [u32],
+    entries: &mut [u32],
+    rosters: &mut [u8],
+    zone: u32,
+    r: Rect,
+) {
+    text(b"A");
+    number(zone as u64);
+    text(b" ->");
+    match town::add_zone(head, zones, cars, spots, starts, entries, rosters, zone, r) {
+        Added::Refused(n) => number(n as u64),
+        Added::Done(squares, inside) => {
+            number(0);
+            number(squares as u64);
+            number(inside as u64);
+        }
+    }
+    say_sound(head, zones, cars, spots, starts, entries, rosters);
+}
+
+fn remove(
+    head: &[u32],
+    zones: &mut [u32],
+    cars: &[u32],
+    spots: &[f32],
+    starts: &mut [u32],
+    entries: &mut [u32],
+    rosters: &mut [u8],
+    zone: u32,
+) {
+    text(b"D");
+    number(zone as u64);
+    text(b" ->");
+    match town::remove_zone(head, zones, cars, spots, starts, entries, rosters, zone) {
+        Removed::Refused(n) => number(n as u64),
+        Removed::Done => number(0),
+    }
+    say_sound(head, zones, cars, spots, starts, entries, rosters);
+}
+
+fn report(
+    head: &[u32],
+    zones: &[u32],
+    cars: &mut [u32],
+    spots: &mut [f32],
+    starts: &[u32],
+    entries: &[u32],
+    rosters: &mut [u8],
+    car: u32,
+    x: u32,
+    y: u32,
+) {
+    let mut entered = [7u32; 16];
+    let mut left = [7u32; 16];
+    let p = Position {
+        x: float_of(x),
+        y: float_of(y),
+    };
+    text(b"P");
+    number(car as u64);
+    text(b" ->");
+    match town::report_car(
+        head,
+        zones,
+        cars,
+        spots,
+        starts,
+        entries,
+        rosters,
+        car,
+        p,
+        &mut entered,
+        &mut left,
+    ) {
+        Reported::Refused(n) => number(n as u64),
+        Reported::Done(squares, came, gone) => {
+            number(0);
+            number(squares as u64);
+            number(came as u64);
+            number(gone as u64);
+        }
+    }
+    say_sound(head, zones, cars, spots, starts, entries, rosters);
+    bracket(&entered);
+    bracket(&left);
+}
+
+fn leave(
+    head: &[u32],
+    zones: &[u32],
+    cars: &mut [u32],
+    spots: &[f32],
+    starts: &[u32],
+    entries: &[u32],
+    rosters: &mut [u8],
+    car: u32,
+) {
+    let mut left = [7u32; 16];
+    text(b"L");
+    number(car as u64);
+    text(b" ->");
+    match town::leave_town(
+        head,
+        zones,
+        cars,
+        spots,
+        starts,
+        entries,
+        rosters,
+        car,
+        &mut left,
+    ) {
+        Departed::Refused(n) => number(n as u64),
+        Departed::Done(squares, gone) => {
+            number(0);
+            number(squares as u64);
+            number(gone as u64);
+        }
+    }
+    say_sound(head, zones, cars, spots, starts, entries, rosters);
+    bracket(&left);
+}
+
+fn roster(
+    head: &[u32],
+    zones: &[u32],
+    cars: &[u32],
+    spots: &[f32],
+    starts: &[u32],
+    entries: &[u32],
+    rosters: &[u8],
+    zone: u32,
+) {
+    let mut out = [7u32; 64];
+    text(b"R");
+    number(zone as u64);
+    text(b" ->");
+    match town::list_roster(
+        head,
+        zones,
+        cars,
+        spots,
+        starts,
+        entries,
+        rosters,
+        zone,
+        &mut out,
+    ) {
+        Listed::Refused(n) => number(n as u64),
+        Listed::Cars(n) => {
+            number(0);
+            number(n as u64);
+        }
+    }
+    bracket(&out);
+}
+
+// One line: what it asks, and five numbers.
+fn line(
+    head: &[u32],
+    zones: &mut [u32],
+    cars: &mut [u32],
+    spots: &mut [f32],
+    starts: &mut [u32],
+    entries: &mut [u32],
+    rosters: &mut [u8],
+    letter: u32,
+    n: u32,
+    a: u32,
+    b: u32,
+    w: u32,
+    h: u32,
+) {
+    if letter == 65 {
+        add(
+            head,
+            zones,
+            cars,
+            spots,
+            starts,
+            entries,
+            rosters,
+            n,
+            Rect { a, b, w, h },
+        );
+        return;
+    }
+    if letter == 68 {
+        remove(head, zones, cars, spots, starts, entries, rosters, n);
+        return;
+    }
+    if letter == 80 {
+        report(head, zones, cars, spots, starts, entries, rosters, n, a, b);
+        return;
+    }
+    if letter == 76 {
+        leave(head, zones, cars, spots, starts, entries, rosters, n);
+        return;
+    }
+    roster(head, zones, cars, spots, starts, entries, rosters, n);
+}
+
+// Lines, each of six numbers.
+fn lines(
+    head: &[u32],
+    zones: &mut [u32],
+    cars: &mut [u32],
+    spots: &mut [f32],
+    starts: &mut [u32],
+    entries: &mut [u32],
+    rosters: &mut [u8],
+    script: &[u32],
+) {
+    let many = script.len() / 6;
+    let mut i = 0;
+    while i < many {
+        let at = 6 * i;
+        line(
+            head,
+            zones,
+            cars,
+            spots,
+            starts,
+            entries,
+            rosters,
+            script[at],
+            script[at + 1],
+            script[at + 2],
+            script[at + 3],
+            script[at + 4],
+            script[at + 5],
+        );
+        i += 1;
+    }
+}
+
+// The whole case; then a car that stands where a zone is added, steps within a block and between blocks, within a cell, off
+// the map, a car that is none, and a zone taken away.
+const SCRIPT: [u32; 120] = [
+    65,
+    1,
+    5,
+    2,
+    8,
+    12,
+    80,
+    7,
+    0x40B0_0000,
+    0x4040_0000,
+    0,
+    0,
+    80,
+    7,
+    0x4120_0000,
+    0x4130_0000,
+    0,
+    0,
+    82,
+    1,
+    0,
+    0,
+    0,
+    0,
+    65,
+    1,
+    0,
+    0,
+    1,
+    1,
+    76,
+    7,
+    0,
+    0,
+    0,
+    0,
+    82,
+    1,
+    0,
+    0,
+    0,
+    0,
+    80,
+    3,
+    0x4108_0000,
+    0x4108_0000,
+    0,
+    0,
+    80,
+    3,
+    0x4118_0000,
+    0x4108_0000,
+    0,
+    0,
+    65,
+    0,
+    9,
+    8,
+    1,
+    1,
+    82,
+    0,
+    0,
+    0,
+    0,
+    0,
+    80,
+    3,
+    0x3F80_0000,
+    0x3F80_0000,
+    0,
+    0,
+    80,
+    3,
+    0x40A0_0000,
+    0x3F80_0000,
+    0,
+    0,
+    80,
+    3,
+    0x40A0_0000,
+    0x3F80_0001,
+    0,
+    0,
+    80,
+    3,
+    0x4180_0000,
+    0x3F80_0000,
+    0,
+    0,
+    80,
+    64,
+    0x3F80_0000,
+    0x3F80_0000,
+    0,
+    0,
+    68,
+    1,
+    0,
+    0,
+    0,
+    0,
+    68,
+    1,
+    0,
+    0,
+    0,
+    0,
+    82,
+    1,
+    0,
+    0,
+    0,
+    0,
+    76,
+    7,
+    0,
+    0,
+    0,
+    0,
+];
+
+pub fn whole_case(s: Shape) {
+    let mut head = [7u32; 6];
+    let mut zones = [7u32; 64];
+    let mut cars = [7u32; 64];
+    let mut spots = [float_of(0x7FC0_0000); 128];
+    let mut starts = [7u32; 337];
+    let mut entries = [7u32; 2048];
+    let mut rosters = [7u8; 1024];
+    open(
+        &mut head,
+        &mut zones,
+        &mut cars,
+        &mut spots,
+        &mut starts,
+        &mut entries,
+        &mut rosters,
+        s,
+    );
+    lines(
+        &head,
+        &mut zones,
+        &mut cars,
+        &mut spots,
+        &mut starts,
+        &mut entries,
+        &mut rosters,
+        &SCRIPT,
+    );
+}

@@ -1,0 +1,12 @@
+pub mod Split
+pub mod Grammar
+pub mod Text
+pub mod Lines
+pub mod Fields
+pub mod Leaves
+pub mod SplitLaws
+pub mod NumberLaws
+pub mod RecordLaws
+pub mod TextLaws
+pub mod LineLaws
+pub mod Examples

@@ -1,0 +1,132 @@
+// The record that a line means.
+use crate::fields::Field;
+use crate::numbers::Number;
+use crate::numbers::read_value;
+use crate::reader::read_field;
+ghost use Prim.Native.Nat.{_≤_};
+ghost use mathlib.Core.Path.{_≡_};
+ghost use lib.ListN.{length};
+ghost use Rattle.line.specs.Grammar.{recordOf, recorded, form, values, meaning};
+ghost use Rattle.line.specs.Fields.{rest};
+ghost use Rattle.line.specs.Leaves.{Formed};
+
+// A line that is no record is Bad. A coordinate is a float's bits.
+pub enum Record {
+    Bad,
+    // k, P, Q
+    Open(u32, u32, u32),
+    // zone, a, b, w, h
+    Add(u32, u32, u32, u32, u32),
+    // zone
+    Remove(u32),
+    // car, x, y
+    Report(u32, u32, u32),
+    // car
+    Leave(u32),
+    // x, y
+    Search(u32, u32),
+    // zone
+    Roster(u32),
+}
+
+// The fields after a record's letter: how many, and the base of each.
+struct Form(usize, [u64; 5]);
+
+fn form_of(letter: u8) -> Form
+    ensures { λ r. ⌜ Formed letter (r .0) (r .1) ⌝ }
+{
+    if letter == b'M' {
+        return Form(3, [10, 10, 10, 0, 0]);
+    }
+    if letter == b'A' {
+        return Form(5, [10, 10, 10, 10, 10]);
+    }
+    if letter == b'D' {
+        return Form(1, [10, 0, 0, 0, 0]);
+    }
+    if letter == b'P' {
+        return Form(3, [10, 16, 16, 0, 0]);
+    }
+    if letter == b'L' {
+        return Form(1, [10, 0, 0, 0, 0]);
+    }
+    if letter == b'S' {
+        return Form(2, [16, 16, 0, 0, 0]);
+    }
+    if letter == b'R' {
+        return Form(1, [10, 0, 0, 0, 0]);
+    }
+    Form(0, [0, 0, 0, 0, 0])
+}
+
+// The record with a letter and its values.
+fn record_of(letter: u8, v: [u32; 5]) -> Record
+    ensures { λ r. ⌜ r ≡ recordOf letter v ⌝ }
+{
+    if letter == b'M' {
+        return Record::Open(v[0], v[1], v[2]);
+    }
+    if letter == b'A' {
+        return Record::Add(v[0], v[1], v[2], v[3], v[4]);
+    }
+    if letter == b'D' {
+        return Record::Remove(v[0]);
+    }
+    if letter == b'P' {
+        return Record::Report(v[0], v[1], v[2]);
+    }
+    if letter == b'L' {
+        return Record::Leave(v[0]);
+    }
+    if letter == b'S' {
+        return Record::Search(v[0], v[1]);
+    }
+    if letter == b'R' {
+        return Record::Roster(v[0]);
+    }
+    Record::Bad
+}
+
+// The record with a letter and the fields from place 2 of the line on.
+fn read_record(line: &[u8], letter: u8) -> Record
+    requires { ⌜ length (now line) ≤ 80 ⌝ }
+    ensures { λ r. ⌜ r ≡ recorded letter (values (form letter) (rest (now (line .entry)) 2)) ⌝ }
+{
+    let form = form_of(letter);
+    let count = form.0;
+    let bases = form.1;
+    let mut v = [0u32; 5];
+    let mut at = 2;
+    let mut i = 0;
+    while i < count {
+        let Field::UpTo(end) = read_field(line, at) else {
+            return Record::Bad;
+        };
+        let Number::Value(n) = read_value(&line[at..end], bases[i]) else {
+            return Record::Bad;
+        };
+        v[i] = n as u32;
+        at = end + 1;
+        i += 1;
+    }
+    if at <= line.len() {
+        return Record::Bad;
+    }
+    record_of(letter, v)
+}
+
+// What a line means, without its feed.
+pub fn parse(line: &[u8]) -> Record
+    ensures { λ r. ⌜ r ≡ meaning (now (line .entry)) ⌝ }
+{
+    if 80 < line.len() {
+        return Record::Bad;
+    }
+    let Field::UpTo(end) = read_field(line, 0) else {
+        return Record::Bad;
+    };
+    if end != 1 {
+        return Record::Bad;
+    }
+    read_record(line, line[0])
+}

@@ -1,0 +1,11 @@
+pub mod Events
+pub mod Said
+pub mod ChangeLaws
+pub mod PromiseLaws
+pub mod AgreeLaws
+pub mod TellLaws
+pub mod OutcomeLaws
+pub mod SomeLaws
+pub mod Seasons
+pub mod Whole
+pub mod WholeTables

@@ -1,0 +1,154 @@
+// A report: a car placed or moved.
+use crate::answers::Reported;
+use crate::looks::Crossed;
+use crate::looks::cross;
+use crate::looks::look_up;
+use position::Position;
+use position::Spot;
+use squares::Shape;
+ghost use Prim.Native.Nat.{_+_, _*_, _<_, _≤_};
+ghost use mathlib.Core.Path.{_≡_};
+ghost use lib.ListN.{length};
+ghost use Rattle.squares.specs.Squares.{squares};
+ghost use Rattle.squares.specs.Leaves.{OnMap};
+ghost use Rattle.tables.specs.Tables.{tables};
+ghost use Rattle.town.specs.Promises.{Reports, reportRefusal};
+ghost use Rattle.town.specs.Looks.{Enters, Sees};
+
+fn refuse_report(
+    head: &[u32],
+    zones: &[u32],
+    cars: &[u32],
+    spots: &[f32],
+    starts: &[u32],
+    entries: &[u32],
+    rosters: &[u8],
+    car: u32,
+    p: Position,
+    room: usize,
+    other: usize,
+) -> u32
+    ensures { λ r. ⌜ r ≡ reportRefusal (tables (now (head .entry)) (now (zones .entry)) (now (cars .entry)) (now (spots .entry)) (now (starts .entry)) (now (entries .entry)) (now (rosters .entry))) car p room other ⌝ }
+{
+    if !tables::sized(head, zones, cars, spots, starts, entries, rosters) {
+        return 3;
+    }
+    if tables::car_room(head) <= car {
+        return 5;
+    }
+    let Spot::Cell(_, _) = position::locate(tables::shape_in(head), p) else {
+        return 10;
+    };
+    let many = tables::zone_room(head) as usize;
+    if room < many {
+        return 11;
+    }
+    if other < many {
+        return 11;
+    }
+    0
+}
+
+// The zones that a car enters from off the map.
+fn enter(s: Shape, x: u32, y: u32, starts: &[u32], entries: &[u32], entered: &mut [u32]) -> Crossed
+    requires { ⌜ OnMap s x y ⌝ }
+    requires { ⌜ length (now starts) ≡ squares s + 1 ⌝ }
+    ensures { λ r. ⌜ Enters s x y (now (starts .entry)) (now (entries .entry)) (now (entered .entry)) (now (entered .exit)) r ⌝ }
+{
+    let looked = look_up(s, x, y, starts, entries, entered);
+    Crossed {
+        squares: looked.squares,
+        entered: looked.zones,
+        left: 0,
+    }
+}
+
+// The zones that car c enters and leaves on its way to the cell (x, y).
+fn see(
+    s: Shape,
+    zones: &[u32],
+    cars: &[u32],
+    spots: &[f32],
+    starts: &[u32],
+    entries: &[u32],
+    c: usize,
+    x: u32,
+    y: u32,
+    entered: &mut [u32],
+    left: &mut [u32],
+) -> Crossed
+    requires { ⌜ OnMap s x y ⌝ }
+    requires { ⌜ length (now starts) ≡ squares s + 1 ⌝ }
+    requires { ⌜ c < length (now cars) ⌝ }
+    requires { ⌜ 2 * c + 2 ≤ length (now spots) ⌝ }
+    ensures { λ r. ⌜ Sees s (now (zones .entry)) (now (cars .entry)) (now (spots .entry)) (now (starts .entry)) (now (entries .entry)) c x y (now (entered .entry)) (now (entered .exit)) (now (left .entry)) (now (left .exit)) r ⌝ }
+{
+    if !tables::placed_in(cars, c) {
+        return enter(s, x, y, starts, entries, entered);
+    }
+    let Spot::Cell(old_x, old_y) = position::locate(s, tables::spot_in(spots, c)) else {
+        return enter(s, x, y, starts, entries, entered);
+    };
+    cross(s, zones, starts, entries, old_x, old_y, x, y, entered, left)
+}
+
+// Places or moves a car: stores the position, writes the zones that the car enters and those that it leaves, lowest first,
+// and answers how many squares were looked into and how many zones were written to each buffer.
+pub fn report_car(
+    head: &[u32],
+    zones: &[u32],
+    cars: &mut [u32],
+    spots: &mut [f32],
+    starts: &[u32],
+    entries: &[u32],
+    rosters: &mut [u8],
+    car: u32,
+    p: Position,
+    entered: &mut [u32],
+    left: &mut [u32],
+) -> Reported
+    ensures { λ r. ⌜ Reports (tables (now (head .entry)) (now (zones .entry)) (now (cars .entry)) (now (spots .entry)) (now (starts .entry)) (now (entries .entry)) (now (rosters .entry))) (tables (now (head .entry)) (now (zones .entry)) (now (cars .exit)) (now (spots .exit)) (now (starts .entry)) (now (entries .entry)) (now (rosters .exit))) car p (now (entered .entry)) (now (entered .exit)) (now (left .entry)) (now (left .exit)) r ⌝ }
+{
+    let refusal = refuse_report(
+        head,
+        zones,
+        cars,
+        spots,
+        starts,
+        entries,
+        rosters,
+        car,
+        p,
+        entered.len(),
+        left.len(),
+    );
+    if refusal != 0 {
+        return Reported::Refused(refusal);
+    }
+    let s = tables::shape_in(head);
+    let Spot::Cell(x, y) = position::locate(s, p) else {
+        return Reported::Refused(10);
+    };
+    let c = car as usize;
+    let many = tables::car_room(head);
+    let seen = see(
+        s,
+        zones,
+        cars,
+        spots,
+        starts,
+        entries,
+        c,
+        x,
+        y,
+        entered,
+        left,
+    );
+    let came = seen.entered;
+    let gone = seen.left;
+    tables::stamp_rows(rosters, &entered[..came], many, car, 1);
+    tables::stamp_rows(rosters, &left[..gone], many, car, 0);
+    tables::write_spot(spots, c, p);
+    tables::write_car(cars, c, 1);
+    Reported::Done(seen.squares, came, gone)
+}
