@@ -25,7 +25,7 @@ use Rattle.tables.specs.Rows.{RowThere}
 use Rattle.tables.specs.Inside.{carIn, rowIn, countIn, Marks, RowMarked}
 use Rattle.tables.specs.Tests.{sum}
 use Rattle.tables.specs.CountLaws.{count-sum}
-use Rattle.tables.specs.RosterLaws.{part-stored}
+use Rattle.tables.specs.RowLaws.{part-stored}
 use Rattle.tables.specs.SetLaws.{Setting, set-begins, set-turns, set-ends}
 
 -- ---- a car

@@ -24,18 +24,10 @@ use Rattle.tables.specs.Derived.{bit, rostersOf}
 use Rattle.tables.specs.Steps.{zoned, withZone, withoutZone}
 use Rattle.tables.specs.Rows.{RowThere}
 use Rattle.tables.specs.Edits.{rowCleared}
-use Rattle.tables.specs.RowLaws.{map-span}
+use Rattle.tables.specs.RowLaws.{map-span, part-stored}
 use Rattle.tables.specs.ZoneLaws.{sets-apart, sets-there, rect-with, rect-with-other, rect-without-other, stands-without}
 
 -- ---- a part lent and written
-
--- a part from a to b comes back as what was stored from a on
-pub part-stored : (l ys : List ℕ) (a b : ℕ) → a ≤ b → b ≤ length l → length ys ≡ b - a → putMid a (b - a) l ys ≡ sets l a ys
-part-stored l ys a b h g e =
-    let k : a + (b - a) ≡ a + length ys = omega arith in
-    ap (λ (m : List ℕ). take a l ++ (ys ++ m)) (drop-drop (b - a) a l ∙ ap (λ (n : ℕ). drop n l) k)
-    ∙ sym (append-assoc (take a l) ys (drop (a + length ys) l))
-    ∙ sym (sets-eq ys l a (omega arith))
 
 -- a zone's row filled with 0
 pub row-filled : {rosters : List ℕ} {z many : ℕ} → RowThere rosters z many → (f : List ℕ) → f ≡ replicate (length (midOf (z * many) (z * many + many - z * many) rosters)) 0 → putMid (z * many) (z * many + many - z * many) rosters f ≡ rowCleared rosters z many

@@ -1,15 +1,16 @@
 -- Laws of a row of the rosters, of tables set to one number, and of what a sound roster says.
-use Prim.Native.Nat.{ℕ, zero, suc, _+_, _*_, _/_, _%_, _<_, _≤_}
+use Prim.Native.Nat.{ℕ, zero, suc, _+_, _-_, _*_, _/_, _%_, _<_, _≤_}
 use mathlib.Core.Path.{_≡_, refl, ap, sym, _∙_}
 use mathlib.Core.Bool.{Bool, true, false}
-use mathlib.Core.List.{List, [], _∷_, _++_, append-nil, map}
+use mathlib.Core.List.{List, [], _∷_, _++_, append-nil, append-assoc, map}
 use native.Mathlib.Omega.{arith}
 use native.Mathlib.Nat.{add-zero, zero-add, mul-le-mul, mul-le-mul-right, suc-mul}
 use native.Mathlib.Numerals.{add-one}
 use lib.Arith.{digits-lt, digits-div, digits-mod}
 use lib.Dec.{ltb}
-use lib.ListN.{length, getD, drop, set, replicate, length-replicate, drop-of-length-le}
-use lib.Seq.{drop-cons, set-at, append-snoc}
+use lib.ListN.{length, getD, take, drop, set, replicate, length-replicate, drop-of-length-le}
+use lib.Seq.{sets, sets-eq, drop-drop, drop-cons, set-at, append-snoc}
+use borrow.Rule.Slice.PartMut.{putMid}
 use borrow.Author.Tests.{lt-ltb, le-ltb}
 use Rattle.order.specs.Order.{span, upto, keep}
 use Rattle.order.specs.Buffer.{Wrote}
@@ -20,6 +21,16 @@ use Rattle.tables.specs.Check.{Sized}
 use Rattle.tables.specs.Derived.{bit}
 use Rattle.tables.specs.Sound.{Sound}
 use Rattle.tables.specs.Rows.{marked, row, Adds, RowThere}
+
+-- ---- a part lent and written
+
+-- a part from a to b comes back as what was stored from a on
+pub part-stored : (l ys : List ℕ) (a b : ℕ) → a ≤ b → b ≤ length l → length ys ≡ b - a → putMid a (b - a) l ys ≡ sets l a ys
+part-stored l ys a b h g e =
+    let k : a + (b - a) ≡ a + length ys = omega arith in
+    ap (λ (m : List ℕ). take a l ++ (ys ++ m)) (drop-drop (b - a) a l ∙ ap (λ (n : ℕ). drop n l) k)
+    ∙ sym (append-assoc (take a l) ys (drop (a + length ys) l))
+    ∙ sym (sets-eq ys l a (omega arith))
 
 -- ---- a list filled from the front
 

@@ -1,67 +1,61 @@
 use Prim.Native.Nat.{_-_}
 use native.Mathlib.Omega.{arith}
 use lib.ListN.{length}
-use Rattle.tables.specs.RankLaws.{Ranking, rank-begins, rank-turns, rank-ends}
+use Rattle.tables.specs.RankLaws.{Ranking, rank-begins, rank-turns, rank-full, rank-ends}
 use borrow.Author.Needs.{needs}
 use Rattle.tables.proofs.starts.set_starts.Statement.{statement}
 use Rattle.tables.proofs.starts.set_starts.Tie as tie
 
 abbrev Inv-loop : tie.InvT-loop
-Inv-loop starts₀ entries at₀ p₀ starts at p = Ranking starts₀ entries starts at p
+Inv-loop starts₀ entries many p₀ i₀ starts p i = Ranking starts₀ entries starts p i
 
 abbrev μ-loop : tie.MeasureT-loop
-μ-loop starts₀ entries at₀ p₀ starts at p = length starts₀ - p
+μ-loop starts₀ entries many p₀ i₀ starts p i = length entries - i
 
 loop-holds : tie.Need-loop-holds Inv-loop μ-loop
 loop-holds c = rank-begins _ _
 
-mul-rank-of : tie.Need-mul-rank-of Inv-loop μ-loop
-mul-rank-of c = search needs
+same-length : tie.Need-same-length Inv-loop μ-loop
+same-length c = c .before .before .loop .inv .long
 
-sub-rank-of : tie.Need-sub-rank-of Inv-loop μ-loop
-sub-rank-of c = search needs
+returns : tie.Need-returns Inv-loop μ-loop
+returns c = rank-full (c .before .before .loop .inv) (c .if1 .taken)
 
-part-rank-of-start : tie.Need-part-rank-of-start Inv-loop μ-loop
-part-rank-of-start c = search needs
+mul-place-after : tie.Need-mul-place-after Inv-loop μ-loop
+mul-place-after c = search needs
 
-part-rank-of-end : tie.Need-part-rank-of-end Inv-loop μ-loop
-part-rank-of-end c = search needs
+shared-slice-read-place-after : tie.Need-shared-slice-read-place-after Inv-loop μ-loop
+shared-slice-read-place-after c = search needs
 
-cast-rank-of : tie.Need-cast-rank-of Inv-loop μ-loop
-cast-rank-of c = search needs
+place-after-requires : tie.Need-place-after-requires Inv-loop μ-loop
+place-after-requires c κs = search needs
 
-mul-rank-of-2 : tie.Need-mul-rank-of-2 Inv-loop μ-loop
-mul-rank-of-2 c = search needs
+cast-fill-to : tie.Need-cast-fill-to Inv-loop μ-loop
+cast-fill-to c = search needs
 
-rank-of-requires : tie.Need-rank-of-requires Inv-loop μ-loop
-rank-of-requires c κs = search needs
+fill-to-requires : tie.Need-fill-to-requires Inv-loop μ-loop
+fill-to-requires c κs = (omega (arith, c .before .before .before .before .before .loop .inv .within, c .before .before .before .before .before .loop .inv .long), omega (arith, c .before .place-after .ensures .most, c .before .before .before .before .before .loop .inv .long))
 
-add-at : tie.Need-add-at Inv-loop μ-loop
-add-at c = search needs
-
-cast-starts : tie.Need-cast-starts Inv-loop μ-loop
-cast-starts c = search needs
-
-mul-starts : tie.Need-mul-starts Inv-loop μ-loop
-mul-starts c = search needs
-
-slice-write-starts : tie.Need-slice-write-starts Inv-loop μ-loop
-slice-write-starts c = search needs
-
-add-p : tie.Need-add-p Inv-loop μ-loop
-add-p c = search needs
+add-i : tie.Need-add-i Inv-loop μ-loop
+add-i c = search needs
 
 loop-less : tie.Need-loop-less Inv-loop μ-loop
 loop-less c = search needs
 
 loop-again : tie.Need-loop-again Inv-loop μ-loop
-loop-again c = rank-turns (c .before .before .before .loop .inv) (omega arith) (c .rank-of .ensures)
+loop-again c = rank-turns (c .before .before .before .before .before .before .before .before .loop .inv) (omega arith) (c .before .before .before .before .place-after .ensures) (c .before .before .fill-to .ensures)
 
-same-length : tie.Need-same-length Inv-loop μ-loop
-same-length c = c .before .loop .inv .long
+cast-fill-to-2 : tie.Need-cast-fill-to-2 Inv-loop μ-loop
+cast-fill-to-2 c = search needs
 
-returns : tie.Need-returns Inv-loop μ-loop
-returns c = rank-ends (c .before .loop .inv) (omega arith)
+fill-to-requires-2 : tie.Need-fill-to-requires-2 Inv-loop μ-loop
+fill-to-requires-2 c κs = (omega (arith, c .before .before .loop .inv .within, c .before .before .loop .inv .long), omega (arith, c .before .before .loop .inv .long))
+
+same-length-2 : tie.Need-same-length-2 Inv-loop μ-loop
+same-length-2 c = search needs
+
+returns-2 : tie.Need-returns-2 Inv-loop μ-loop
+returns-2 c = rank-ends (c .before .before .before .before .before .loop .inv) (omega arith) (c .before .before .fill-to2 .ensures)
 
 pub set-starts-spec : {M : Type 1} → statement M
 set-starts-spec =
@@ -70,19 +64,17 @@ set-starts-spec =
     Inv-loop
     μ-loop
     loop-holds
-    mul-rank-of
-    sub-rank-of
-    part-rank-of-start
-    part-rank-of-end
-    cast-rank-of
-    mul-rank-of-2
-    rank-of-requires
-    add-at
-    cast-starts
-    mul-starts
-    slice-write-starts
-    add-p
+    same-length
+    returns
+    mul-place-after
+    shared-slice-read-place-after
+    place-after-requires
+    cast-fill-to
+    fill-to-requires
+    add-i
     loop-less
     loop-again
-    same-length
-    returns)
+    cast-fill-to-2
+    fill-to-requires-2
+    same-length-2
+    returns-2)
