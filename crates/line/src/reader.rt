@@ -9,12 +9,6 @@ pub struct Reader<'a> {
     pub at: usize,
 }
 
-pub fn reader_at<'a>(line: &'a [u8], at: usize) -> Reader<'a>
-    ensures { λ r. ⌜ (r .line ≡ line .entry) × (r .at ≡ at) ⌝ }
-{
-    Reader { line, at }
-}
-
 // The field that starts at the reader's place.
 pub fn next_field<'a>(r: Reader<'a>) -> Field
     ensures { λ f. ⌜ f ≡ fieldAt (now (r .entry .line)) (r .entry .at) ⌝ }
@@ -26,5 +20,5 @@ pub fn next_field<'a>(r: Reader<'a>) -> Field
 pub fn read_field(line: &[u8], at: usize) -> Field
     ensures { λ r. ⌜ r ≡ fieldAt (now (line .entry)) at ⌝ }
 {
-    next_field(reader_at(line, at))
+    next_field(Reader { line, at })
 }
