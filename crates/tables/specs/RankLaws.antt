@@ -5,7 +5,7 @@ use mathlib.Core.Logic.{⊎-elim}
 use mathlib.Core.List.{List, [], _∷_, _++_, append-nil, append-assoc, map, map-append, List·Memᴰ, List·Memᴰ·head, List·Memᴰ·tail, List·Memᴰ·cases-cons, List·Memᴰ·not-nil, List·Memᴰ·append-cases}
 use native.Mathlib.Omega.{arith}
 use native.Mathlib.Numerals.{add-one}
-use native.Mathlib.Nat.{zero-add, add-zero, add-suc}
+use native.Mathlib.Nat.{zero-add, add-zero}
 use lib.ListN.{length, getD, drop, replicate, length-map, length-drop, length-append, length-replicate}
 use lib.Seq.{sets, sets-eq, length-sets, take-at, drop-append-add, drop-drop, drop-length}
 use borrow.Author.Tests.{lt-ltb, le-ltb}
@@ -13,7 +13,6 @@ use borrow.Rule.Slice.PartMut.{midOf, putMid, mid-len}
 use Rattle.order.specs.Order.{span, upto}
 use Rattle.order.specs.Buffer.{rank}
 use Rattle.order.specs.BufferLaws.{rank-stop, rank-go, rank-end}
-use Rattle.order.specs.TestLaws.{lt-or-le}
 use Rattle.order.specs.KeepLaws.{span-add, span→, keep→, length-span}
 use Rattle.squares.specs.Squares.{squares}
 use Rattle.squares.specs.ShapeLaws.{squares-few}

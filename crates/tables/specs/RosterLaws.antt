@@ -3,13 +3,13 @@ use Prim.Native.Nat.{ℕ, _+_, _-_, _*_, _/_, _%_, _<_, _≤_}
 use mathlib.Core.Path.{_≡_, refl, ap, sym, _∙_}
 use mathlib.Core.Logic.{_⊎_, inl, inr, ⊎-elim}
 use mathlib.Core.Bool.{Bool, false, _&&_, and-false}
-use mathlib.Core.List.{List, [], _∷_, _++_, append-assoc, map}
+use mathlib.Core.List.{List, [], _∷_, map}
 use native.Mathlib.Omega.{arith}
 use native.Mathlib.Nat.{zero-add, mul-le-mul, suc-mul, div-add-mod', mod-lt, div-lt-iff-lt-mul, le-refl}
 use lib.Arith.{digits-lt, digits-div, digits-mod}
 use lib.Dec.{ltb}
-use lib.ListN.{length, getD, take, drop, replicate, length-map, length-replicate}
-use lib.Seq.{sets, sets-eq, length-sets, drop-drop, ext-getD}
+use lib.ListN.{length, getD, replicate, length-map, length-replicate}
+use lib.Seq.{sets, length-sets, ext-getD}
 use borrow.Author.Tests.{lt-ltb}
 use borrow.Rule.Slice.PartMut.{midOf, putMid, mid-len}
 use Rattle.order.specs.Order.{upto}

@@ -132,6 +132,11 @@ module _ {s : Shape} {x y x′ y′ : ℕ} (map : OnMap s x y) (map′ : OnMap s
     pub cross-ends : s .k < up → Crosses s zones starts entries x y x′ y′ e e′ l l′ (record { squares = seen; entered = came; left = gone })
     cross-ends h = crossed (apart-all (k .low) h)
 
+-- the same cell: no square differs
+pub cross-same : (s : Shape) (zones starts entries : List ℕ) (x y : ℕ) (e l : List ℕ) → Crosses s zones starts entries x y x y e e l l (record { squares = 0; entered = 0; left = 0 })
+unfolding lookedInto
+cross-same s zones starts entries x y e l = record { levels = 0; apart = apart-stops (differing-none s x y x y) (omega arith) refl; squares = refl; entered = front-none e; left = front-none l }
+
 -- ---- on sound tables
 
 -- a zone with f is on the list of one of the m smallest squares of a cell

@@ -38,7 +38,7 @@ use Rattle.town.specs.declared.looks.Looked.{Looked}
 use Rattle.town.specs.declared.looks.Crossed.{Crossed}
 use Rattle.town.specs.Promises.{traceRefusal, Reports, reportRefusal, reportedSays, squaresLooked, entered, left, Leaves, leaveRefusal, departedSays, zonesOf}
 use Rattle.town.specs.Looks.{Looks, Crosses, Enters, Sees}
-use Rattle.town.specs.LookLaws.{looked-holds, looked-apart}
+use Rattle.town.specs.LookLaws.{looked-holds, looked-apart, cross-same}
 use Rattle.town.specs.SearchLaws.{spot-off, spot-on}
 
 -- ---- how a report is refused
@@ -145,16 +145,20 @@ module _ (t : Tables) (c : ℕ) (p : Position) (e l : List ℕ) (ok : Reportable
 
 -- ---- what a car's way to a cell asks and gives
 
-module _ {s : Shape} {zones cars : List ℕ} {spots : List Float} {starts entries : List ℕ} {c x y : ℕ} {e e′ l : List ℕ} {r : Crossed} where
-  pub sees-entering : placedIn cars c ≡ false → Enters s x y starts entries e e′ r → Sees s zones cars spots starts entries c x y e e′ l l r
+module _ {s : Shape} {zones cars : List ℕ} {spots : List Float} {starts entries : List ℕ} {c x y : ℕ} {e l : List ℕ} where
+  pub sees-entering : {e′ : List ℕ} {r : Crossed} → placedIn cars c ≡ false → Enters s x y starts entries e e′ r → Sees s zones cars spots starts entries c x y e e′ l l r
   sees-entering off h = record { new = λ q. (h, refl); moved = λ on q. absurd (true-not-false (placedIn cars c) on off); came = front-within (h .entered); gone = omega (arith, h .left) }
 
   -- a placed car that is not on the map, which sound tables have not
-  pub sees-lost : placedIn cars c ≡ true → onTown s (spotIn spots c) ≡ false → Enters s x y starts entries e e′ r → Sees s zones cars spots starts entries c x y e e′ l l r
+  pub sees-lost : {e′ : List ℕ} {r : Crossed} → placedIn cars c ≡ true → onTown s (spotIn spots c) ≡ false → Enters s x y starts entries e e′ r → Sees s zones cars spots starts entries c x y e e′ l l r
   sees-lost on off h = record { new = λ q. absurd (true-not-false (placedIn cars c) on q); moved = λ q town. absurd (true-not-false (onTown s (spotIn spots c)) town off); came = front-within (h .entered); gone = omega (arith, h .left) }
 
-  pub sees-crossing : {l′ : List ℕ} → placedIn cars c ≡ true → {x′ y′ : ℕ} → (onTown s (spotIn spots c) ≡ true) × (columnOf s (spotIn spots c) ≡ x′) × (rowOf s (spotIn spots c) ≡ y′) → Crosses s zones starts entries x′ y′ x y e e′ l l′ r → Sees s zones cars spots starts entries c x y e e′ l l′ r
+  pub sees-crossing : {e′ l′ : List ℕ} {r : Crossed} → placedIn cars c ≡ true → {x′ y′ : ℕ} → (onTown s (spotIn spots c) ≡ true) × (columnOf s (spotIn spots c) ≡ x′) × (rowOf s (spotIn spots c) ≡ y′) → Crosses s zones starts entries x′ y′ x y e e′ l l′ r → Sees s zones cars spots starts entries c x y e e′ l l′ r
   sees-crossing on at h = record { new = λ q. absurd (true-not-false (placedIn cars c) on q); moved = λ q town. rw (at .1, at .2) h; came = front-within (h .entered); gone = front-within (h .left) }
+
+  -- the car's own cell
+  pub sees-same : placedIn cars c ≡ true → {x′ y′ : ℕ} → (onTown s (spotIn spots c) ≡ true) × (columnOf s (spotIn spots c) ≡ x′) × (rowOf s (spotIn spots c) ≡ y′) → x′ ≡ x → y′ ≡ y → Sees s zones cars spots starts entries c x y e e l l (record { squares = 0; entered = 0; left = 0 })
+  sees-same on at f g = sees-crossing on at (rw (f, g) (cross-same s zones starts entries x y e l))
 
 -- the cell of a position on the map
 pub cell-map : {s : Shape} (p : Position) {x y : ℕ} → Allowed s → (onTown s p ≡ true) × (columnOf s p ≡ x) × (rowOf s p ≡ y) → OnMap s x y

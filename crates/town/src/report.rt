@@ -89,6 +89,15 @@ fn see(
     let Spot::Cell(old_x, old_y) = position::locate(s, tables::spot_in(spots, c)) else {
         return enter(s, x, y, starts, entries, entered);
     };
+    if old_x == x {
+        if old_y == y {
+            return Crossed {
+                squares: 0,
+                entered: 0,
+                left: 0,
+            };
+        }
+    }
     cross(s, zones, starts, entries, old_x, old_y, x, y, entered, left)
 }
 

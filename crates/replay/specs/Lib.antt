@@ -1,0 +1,7 @@
+pub mod Room
+pub mod Replies
+pub mod Texts
+pub mod RoomLaws
+pub mod ReplyLaws
+pub mod PartLaws
+pub mod ClosedLaws

@@ -1,0 +1,93 @@
+-- What the program's room gives: the part of the starts that is lent, and tables that stay ready.
+use Prim.Native.Nat.{ℕ, _+_, _-_, _*_, _^_, _≤_}
+use mathlib.Core.Path.{_≡_, ap, sym, subst, _∙_}
+use mathlib.Core.Logic.{⊎-elim}
+use mathlib.Core.Bool.{true, false}
+use mathlib.Core.List.{List}
+use native.Mathlib.Omega.{arith}
+use native.Mathlib.Numerals.{add-one}
+use native.Mathlib.Nat.{mul-le-mul, mul-le-mul-left, mul-left-comm, pow-succ', sub-le}
+use lib.ListN.{length, take, length-take, take-append-drop}
+use lib.Seq.{take-at, length-take-le}
+use Rattle.order.specs.Order.{over}
+use Rattle.order.specs.TestLaws.{true-or-false}
+use Rattle.order.specs.BufferLaws.{length-over}
+use Rattle.squares.specs.declared.shape.Shape.{Shape}
+use Rattle.squares.specs.Shape.{Allowed, allowed, width, height}
+use Rattle.squares.specs.Squares.{squares}
+use Rattle.squares.specs.ShapeLaws.{area, →allowed}
+use Rattle.tables.specs.Tables.{Tables, tables, shapeIn, shapeOf, zoneRoom, carRoom, entryRoom}
+use Rattle.tables.specs.Check.{sized}
+use Rattle.tables.specs.Sound.{Sound}
+use Rattle.tables.specs.CheckLaws.{sized→}
+use Rattle.replay.specs.Room.{placesOf, lent, into, Ready}
+
+-- a town of at most 64 by 64 has room
+pub squares-64 : (s : Shape) → Allowed s → width s ≤ 64 → height s ≤ 64 → squares s + 1 ≤ 5462
+squares-64 s a w h =
+    let few : s .P * s .Q * 4 ^ s .k ≤ 4096 = subst (λ (n : ℕ). n ≤ 4096) (area s a) (mul-le-mul w h) in
+    let four : 4 ^ (s .k + 1) ≡ 4 * 4 ^ s .k = rw (add-one (s .k)) (pow-succ' 4 (s .k)) in
+    let all : s .P * s .Q * 4 ^ (s .k + 1) ≡ 4 * (s .P * s .Q * 4 ^ s .k) = rw four (mul-left-comm (s .P * s .Q) 4 (4 ^ s .k)) in
+    let most : s .P * s .Q * (4 ^ (s .k + 1) - 1) ≤ s .P * s .Q * 4 ^ (s .k + 1) = mul-le-mul-left (s .P * s .Q) (sub-le (4 ^ (s .k + 1)) 1) in
+    omega arith
+
+pub places-some : (head : List ℕ) → allowed (shapeIn head) ≡ true → placesOf head ≡ squares (shapeIn head) + 1
+unfolding placesOf
+places-some head e = rw e
+
+pub places-none : (head : List ℕ) → allowed (shapeIn head) ≡ false → placesOf head ≡ 0
+unfolding placesOf
+places-none head e = rw e
+
+-- lent and put back, a part leaves the whole as it was
+pub put-back : (n : ℕ) (l : List ℕ) → n ≤ length l → over (take n l) l ≡ l
+put-back n l h = rw (length-take-le n l h) (take-append-drop n l)
+
+module _ {t : Tables} (ready : Ready t) where
+  -- ---- a town that is open
+
+  pub lent-sound : sized (lent t) ≡ true → Sound (lent t)
+  lent-sound e = ready .sound (→allowed (shapeOf t) (sized→ (lent t) e .shape))
+
+  module _ (sound : Sound (lent t)) where
+    pub zones-16 : zoneRoom t ≡ 16
+    zones-16 = omega (arith, sound .size .lengths .zones, ready .zones)
+
+    pub cars-64 : carRoom t ≡ 64
+    cars-64 = sym (sound .size .lengths .cars) ∙ ready .cars
+
+    pub entries-2048 : entryRoom t ≡ 2048
+    entries-2048 = sym (sound .size .lengths .entries) ∙ ready .entries
+
+    pub starts-room : squares (shapeOf t) + 1 ≤ 5462
+    starts-room = omega (arith, sound .size .lengths .starts, length-take (placesOf (t .head)) (t .starts), ready .starts)
+
+  pub places-within : placesOf (t .head) ≤ length (t .starts)
+  places-within = ⊎-elim
+      (λ (e : allowed (shapeOf t) ≡ true). omega (arith, places-some (t .head) e, starts-room (ready .sound e), ready .starts))
+      (λ (e : allowed (shapeOf t) ≡ false). omega (arith, places-none (t .head) e))
+      (true-or-false (allowed (shapeOf t)))
+
+  pub kept-back : into t (lent t) ≡ t
+  kept-back = ap (λ (l : List ℕ). tables (t .head) (t .zones) (t .cars) (t .spots) l (t .entries) (t .rosters)) (put-back (placesOf (t .head)) (t .starts) places-within)
+
+  -- ---- tables that stay ready
+
+  module _ (u : Tables) (sound : Sound u) where
+    pub ready-into : zoneRoom u ≡ 16 → carRoom u ≡ 64 → entryRoom u ≡ 2048 → squares (shapeOf u) + 1 ≤ 5462 → Ready (into t u)
+    ready-into z c e s =
+        let l = sound .size .lengths in
+        let places : placesOf (u .head) ≡ length (u .starts) = places-some (u .head) (→allowed (shapeOf u) (sound .size .shape)) ∙ sym (l .starts) in
+        record {
+          head = l .head;
+          zones = l .zones ∙ ap (λ (n : ℕ). 4 * n) z;
+          cars = l .cars ∙ c;
+          spots = l .spots ∙ ap (λ (n : ℕ). 2 * n) c;
+          starts = length-over (u .starts) (t .starts) (omega (arith, l .starts, ready .starts)) ∙ ready .starts;
+          entries = l .entries ∙ e;
+          rosters = l .rosters ∙ rw (z, c);
+          sound = λ _. rw (take-at (u .starts) _ (placesOf (u .head)) (sym places)) sound;
+        }
+
+    pub ready-same : Sound (lent t) → u .head ≡ t .head → Ready (into t u)
+    ready-same h e = ready-into (rw e (zones-16 h)) (rw e (cars-64 h)) (rw e (entries-2048 h)) (rw e (starts-room h))

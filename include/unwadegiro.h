@@ -1,0 +1,204 @@
+/*
+ * unwadegiro: zones, cars and rosters of a town, over tables that the caller lends.
+ *
+ * Ownership. The caller owns all memory. A call allocates nothing, keeps no pointer and no state: a town is its seven
+ * tables and nothing else. The calls may be made from any thread, as long as nobody else uses what a call was lent while
+ * it runs, other calls that only read the same tables apart.
+ *
+ * Slices. A slice is a pointer and a length, counted in elements. The pointer must be aligned for its element and valid
+ * for the whole length; where the length is 0 it is not read and may be anything. The slices of one call must not
+ * overlap each other: not the tables, not the buffers, not `values`.
+ *
+ * Tables. Shape and capacities fix the length of each of the seven (unwadegiro_lengths gives them). unwadegiro_open
+ * writes them; from then on they are lent together, in this order, as that town's tables and as nothing else:
+ *
+ *   head     uint32_t   shape and capacities
+ *   zones    uint32_t   the zones' rectangles
+ *   cars     uint32_t   which cars are on the map
+ *   spots    float      the cars' positions
+ *   starts   uint32_t   where each square's list starts
+ *   entries  uint32_t   the lists of zones
+ *   rosters  uint8_t    which car is in which zone
+ *
+ * docs/LAYOUT.md says what stands in them. A table that a call does not change is lent as const.
+ *
+ * Answers. Every call returns 0, or the number of the refusal (below). What it answers besides goes into `values`, from
+ * its front, as far as it goes: a slice that is longer keeps the rest, one that is shorter gets the first values alone. On
+ * a refusal these values are 0, and no byte of a table or a buffer changes. A list goes into the front of a buffer, lowest
+ * first; the buffer past it keeps its bytes.
+ *
+ * On tables that are not sound (unwadegiro_sound), a call still ends, stays within what it was lent and gives every
+ * refusal but 12 as said; what an accepted call answers and writes there is not promised, open, sound and where apart.
+ */
+#ifndef UNWADEGIRO_H
+#define UNWADEGIRO_H
+
+#include <stddef.h>
+#include <stdint.h>
+
+#ifdef __cplusplus
+extern "C" {
+#endif
+
+/* What a call returns. A call meets the refusals named with it, in rising order: the first that applies is given. */
+#define UNWADEGIRO_DONE 0u               /* done */
+#define UNWADEGIRO_BAD_SHAPE 1u          /* the shape is beyond the bounds */
+#define UNWADEGIRO_BAD_CAPACITY 2u       /* a capacity is beyond the bounds */
+#define UNWADEGIRO_BAD_TABLES 3u         /* a table has not its length, or what head says is beyond the bounds */
+#define UNWADEGIRO_NO_SUCH_ZONE 4u       /* the zone number is at or above the capacity */
+#define UNWADEGIRO_NO_SUCH_CAR 5u        /* the car number is at or above the capacity */
+#define UNWADEGIRO_ZONE_STANDS 6u        /* the zone stands already */
+#define UNWADEGIRO_ZONE_STANDS_NOT 7u    /* the zone does not stand */
+#define UNWADEGIRO_CAR_OFF_MAP 8u        /* the car is not on the map */
+#define UNWADEGIRO_BAD_RECTANGLE 9u      /* the rectangle has no cell, or passes the town's edge */
+#define UNWADEGIRO_POSITION_OFF_MAP 10u  /* the position is not on the map */
+#define UNWADEGIRO_BUFFER_SHORT 11u      /* a buffer is too short */
+#define UNWADEGIRO_NO_ROOM 12u           /* the zone's squares do not fit into the entries that are free */
+#define UNWADEGIRO_BAD_SQUARE 13u        /* no such square: its level, number or corner */
+
+/* The bounds. W = P * 2^k and H = Q * 2^k are the town's columns and rows. */
+#define UNWADEGIRO_MAX_K 5u
+#define UNWADEGIRO_MAX_SIDE 256u
+#define UNWADEGIRO_MAX_ZONES 256u
+#define UNWADEGIRO_MAX_CARS 1024u
+#define UNWADEGIRO_MAX_ENTRIES 16384u
+
+/* In the list of a cut a square is one number: level * UNWADEGIRO_LEVEL + its number on that level. */
+#define UNWADEGIRO_LEVEL 1048576u
+
+/*
+ * The lengths of the tables for a shape (k, P, Q) and capacities. Shape: k at most 5, P and Q at least 1, W and H at most
+ * 256. Capacities: zones 1 to 256, cars 1 to 1,024, entries 1 to 16,384.
+ * Values, 7: the lengths of head, zones, cars, spots, starts, entries, rosters.
+ * Refusals: 1, 2.
+ */
+uint32_t unwadegiro_lengths(uint32_t k, uint32_t P, uint32_t Q, uint32_t zones, uint32_t cars, uint32_t entries,
+                            uint32_t *values, size_t values_len);
+
+/*
+ * Writes a town with no zone and no car into the tables, whatever lay there.
+ * Refusals: 1, 2, 3.
+ */
+uint32_t unwadegiro_open(uint32_t *head, size_t head_len, uint32_t *zones, size_t zones_len, uint32_t *cars,
+                         size_t cars_len, float *spots, size_t spots_len, uint32_t *starts, size_t starts_len,
+                         uint32_t *entries, size_t entries_len, uint8_t *rosters, size_t rosters_len, uint32_t k,
+                         uint32_t P, uint32_t Q, uint32_t zone_capacity, uint32_t car_capacity,
+                         uint32_t entry_capacity);
+
+/*
+ * Adds a zone: its number and its rectangle, the cells with a <= x < a + w and b <= y < b + h. Cars that stand in it are
+ * on its roster at once.
+ * Values, 2: how many squares its cut has; how many cars are inside.
+ * Refusals: 3, 4, 6, 9, 12.
+ */
+uint32_t unwadegiro_add(const uint32_t *head, size_t head_len, uint32_t *zones, size_t zones_len, const uint32_t *cars,
+                        size_t cars_len, const float *spots, size_t spots_len, uint32_t *starts, size_t starts_len,
+                        uint32_t *entries, size_t entries_len, uint8_t *rosters, size_t rosters_len, uint32_t zone,
+                        uint32_t a, uint32_t b, uint32_t w, uint32_t h, uint32_t *values, size_t values_len);
+
+/*
+ * Removes a zone. Its entries and its number are free for later zones.
+ * Refusals: 3, 4, 7.
+ */
+uint32_t unwadegiro_remove(const uint32_t *head, size_t head_len, uint32_t *zones, size_t zones_len,
+                           const uint32_t *cars, size_t cars_len, const float *spots, size_t spots_len,
+                           uint32_t *starts, size_t starts_len, uint32_t *entries, size_t entries_len,
+                           uint8_t *rosters, size_t rosters_len, uint32_t zone);
+
+/*
+ * Places a car on the map, or moves it. A position is on the map where 0 <= x < W and 0 <= y < H and no sign bit is set.
+ * `entered` gets the zones that hold the new cell and not the old, `left` those that hold the old and not the new; each
+ * must have room for as many zones as the zone capacity. A car that was off the map enters all that hold the new cell.
+ * Values, 3: squares looked into (0 where the cell stays the same); how many zones are in `entered`; how many in `left`.
+ * Refusals: 3, 5, 10, 11.
+ */
+uint32_t unwadegiro_report(const uint32_t *head, size_t head_len, const uint32_t *zones, size_t zones_len,
+                           uint32_t *cars, size_t cars_len, float *spots, size_t spots_len, const uint32_t *starts,
+                           size_t starts_len, const uint32_t *entries, size_t entries_len, uint8_t *rosters,
+                           size_t rosters_len, uint32_t car, float x, float y, uint32_t *entered, size_t entered_len,
+                           uint32_t *left, size_t left_len, uint32_t *values, size_t values_len);
+
+/*
+ * Takes a car off the map. `left` gets the zones that it was in; it must have room for the zone capacity.
+ * Values, 2: squares looked into, k + 1; how many zones are in `left`.
+ * Refusals: 3, 5, 8, 11.
+ */
+uint32_t unwadegiro_leave(const uint32_t *head, size_t head_len, const uint32_t *zones, size_t zones_len,
+                          uint32_t *cars, size_t cars_len, const float *spots, size_t spots_len,
+                          const uint32_t *starts, size_t starts_len, const uint32_t *entries, size_t entries_len,
+                          uint8_t *rosters, size_t rosters_len, uint32_t car, uint32_t *left, size_t left_len,
+                          uint32_t *values, size_t values_len);
+
+/*
+ * The zones that hold a position, into `found`, which must have room for the zone capacity.
+ * Values, 2: squares looked into, k + 1; how many zones are in `found`.
+ * Refusals: 3, 10, 11.
+ */
+uint32_t unwadegiro_search(const uint32_t *head, size_t head_len, const uint32_t *zones, size_t zones_len,
+                           const uint32_t *cars, size_t cars_len, const float *spots, size_t spots_len,
+                           const uint32_t *starts, size_t starts_len, const uint32_t *entries, size_t entries_len,
+                           const uint8_t *rosters, size_t rosters_len, float x, float y, uint32_t *found,
+                           size_t found_len, uint32_t *values, size_t values_len);
+
+/*
+ * The cars in a zone, into `inside`, which must have room for the car capacity.
+ * Values, 1: how many cars are in `inside`.
+ * Refusals: 3, 4, 7, 11.
+ */
+uint32_t unwadegiro_roster(const uint32_t *head, size_t head_len, const uint32_t *zones, size_t zones_len,
+                           const uint32_t *cars, size_t cars_len, const float *spots, size_t spots_len,
+                           const uint32_t *starts, size_t starts_len, const uint32_t *entries, size_t entries_len,
+                           const uint8_t *rosters, size_t rosters_len, uint32_t zone, uint32_t *inside,
+                           size_t inside_len, uint32_t *values, size_t values_len);
+
+/*
+ * Where a car is. `position` gets x and y, as far as it goes: the bits that its last accepted report gave. On a refusal
+ * it gets 0 and 0.
+ * Refusals: 3, 5, 8.
+ */
+uint32_t unwadegiro_where(const uint32_t *head, size_t head_len, const uint32_t *zones, size_t zones_len,
+                          const uint32_t *cars, size_t cars_len, const float *spots, size_t spots_len,
+                          const uint32_t *starts, size_t starts_len, const uint32_t *entries, size_t entries_len,
+                          const uint8_t *rosters, size_t rosters_len, uint32_t car, float *position,
+                          size_t position_len);
+
+/*
+ * Whether the tables are sound: each zone and each position allowed, lists and rosters what zones and positions give.
+ * Values, 1: 1 for yes, 0 for no.
+ * Refusals: 3.
+ */
+uint32_t unwadegiro_sound(const uint32_t *head, size_t head_len, const uint32_t *zones, size_t zones_len,
+                          const uint32_t *cars, size_t cars_len, const float *spots, size_t spots_len,
+                          const uint32_t *starts, size_t starts_len, const uint32_t *entries, size_t entries_len,
+                          const uint8_t *rosters, size_t rosters_len, uint32_t *values, size_t values_len);
+
+/*
+ * The number of the square of a level with its southwest corner at (x, y).
+ * Values, 1: the number.
+ * Refusals: 1; 13 where level is above k, or the corner is off the map or no multiple of the side.
+ */
+uint32_t unwadegiro_number(uint32_t k, uint32_t P, uint32_t Q, uint32_t level, uint32_t x, uint32_t y,
+                           uint32_t *values, size_t values_len);
+
+/*
+ * The square of a level with a number.
+ * Values, 3: x and y of its southwest corner; its side.
+ * Refusals: 1; 13 where level is above k, or number at or above P * Q * 4^level.
+ */
+uint32_t unwadegiro_square(uint32_t k, uint32_t P, uint32_t Q, uint32_t level, uint32_t number, uint32_t *values,
+                           size_t values_len);
+
+/*
+ * The cut of a rectangle: every square wholly inside it whose parent is not, level 0 first and by rising number within a
+ * level, each as level * UNWADEGIRO_LEVEL + number, into `squares`. 65,536 is always room enough.
+ * Values, 1: how many squares are in `squares`.
+ * Refusals: 1, 9; 11 where `squares` is shorter than the cut.
+ */
+uint32_t unwadegiro_cut(uint32_t k, uint32_t P, uint32_t Q, uint32_t a, uint32_t b, uint32_t w, uint32_t h,
+                        uint32_t *squares, size_t squares_len, uint32_t *values, size_t values_len);
+
+#ifdef __cplusplus
+}
+#endif
+
+#endif

@@ -1,0 +1,390 @@
+//! A town by the definitions of the request: zones and last positions are kept, everything else is worked out each time.
+
+use crate::calls::Call;
+use std::collections::HashMap;
+use unwadegiro::{Capacities, Rectangle, Shape, LEVEL};
+
+/// A cell: its column and row.
+pub type Cell = (u32, u32);
+
+pub fn allowed(s: Shape) -> bool {
+    let within = |blocks: u32| blocks >= 1 && (blocks as u64) << s.k <= 256;
+    s.k <= 5 && within(s.p) && within(s.q)
+}
+
+pub fn roomy(room: Capacities) -> bool {
+    (1..=256).contains(&room.zones) && (1..=1024).contains(&room.cars) && (1..=16384).contains(&room.entries)
+}
+
+pub fn columns(s: Shape) -> u32 {
+    s.p << s.k
+}
+
+pub fn rows(s: Shape) -> u32 {
+    s.q << s.k
+}
+
+/// How many squares a level has.
+pub fn squares_on(s: Shape, level: u32) -> u32 {
+    s.p * s.q * 4u32.pow(level)
+}
+
+/// The number of the square of a level that has a cell: 4^level times the block, and the local number.
+pub fn number(s: Shape, level: u32, (x, y): Cell) -> u32 {
+    let side = 1 << s.k;
+    let block = x / side + y / side * s.p;
+    let top = |low: u32| low >> (s.k - level);
+    let (top_x, top_y) = (top(x % side), top(y % side));
+    let mut local = 0;
+    for rank in 0..level {
+        local += (top_x >> rank & 1) << (2 * rank);
+        local += (top_y >> rank & 1) << (2 * rank + 1);
+    }
+    4u32.pow(level) * block + local
+}
+
+pub fn fits(s: Shape, r: Rectangle) -> bool {
+    let within = |from: u32, many: u32, side: u32| many != 0 && from as u64 + many as u64 <= side as u64;
+    within(r.a, r.w, columns(s)) && within(r.b, r.h, rows(s))
+}
+
+pub fn holds(r: Rectangle, (x, y): Cell) -> bool {
+    let within = |from: u32, many: u32, at: u32| from <= at && (at as u64) < from as u64 + many as u64;
+    within(r.a, r.w, x) && within(r.b, r.h, y)
+}
+
+/// Whether the square with this corner and side lies wholly inside: its first and last cell do.
+fn inside(r: Rectangle, (x, y): Cell, side: u32) -> bool {
+    holds(r, (x, y)) && holds(r, (x + side - 1, y + side - 1))
+}
+
+/// The cut of a rectangle that fits, every square of every level tested.
+pub fn cut(s: Shape, r: Rectangle) -> Vec<u32> {
+    let mut all = Vec::new();
+    for level in 0..=s.k {
+        let side = 1 << (s.k - level);
+        let first = all.len();
+        for y in (0..rows(s)).step_by(side as usize) {
+            for x in (0..columns(s)).step_by(side as usize) {
+                let parent = (x - x % (2 * side), y - y % (2 * side));
+                if inside(r, (x, y), side) && (level == 0 || !inside(r, parent, 2 * side)) {
+                    all.push(level * LEVEL + number(s, level, (x, y)));
+                }
+            }
+        }
+        all[first..].sort_unstable();
+    }
+    all
+}
+
+/// The cell of a coordinate by its bits, none where it is not on the map. The value is n / 2^149 in whole numbers.
+pub fn coordinate(bits: u32, side: u32) -> Option<u32> {
+    let (sign, e, f) = (bits >> 31, bits >> 23 & 255, bits & 0x7F_FFFF);
+    if sign == 1 || e == 255 {
+        return None;
+    }
+    let (n, doubled) = if e == 0 { (f as u64, 0) } else { (0x80_0000 + f as u64, e - 1) };
+    // floor(n * 2^doubled / 2^149); n is below 2^24
+    let cell = match doubled {
+        0..=124 => 0,
+        125..=149 => n >> (149 - doubled),
+        150..=170 => n << (doubled - 149),
+        _ => u64::MAX,
+    };
+    (cell < side as u64).then_some(cell as u32)
+}
+
+/// The cell of a position by its bits.
+pub fn cell(s: Shape, at: [u32; 2]) -> Option<Cell> {
+    Some((coordinate(at[0], columns(s))?, coordinate(at[1], rows(s))?))
+}
+
+/// What a call answers: a refusal or 0, its values, and the lists that it writes.
+#[derive(Debug, Default, PartialEq)]
+pub struct Answer {
+    pub refusal: u32,
+    pub values: Vec<u32>,
+    pub lists: Vec<Vec<u32>>,
+}
+
+fn refused(refusal: u32) -> Answer {
+    Answer { refusal, ..Answer::default() }
+}
+
+fn done(values: Vec<u32>, lists: Vec<Vec<u32>>) -> Answer {
+    Answer { refusal: 0, values, lists }
+}
+
+fn count(list: &[u32]) -> u32 {
+    list.len() as u32
+}
+
+#[derive(Clone, Debug)]
+pub struct Brute {
+    pub shape: Shape,
+    pub room: Capacities,
+    pub zones: Vec<Option<Rectangle>>,
+    pub cars: Vec<Option<[u32; 2]>>,
+    // cuts worked out before: a cut follows from shape and rectangle alone
+    cuts: HashMap<Rectangle, Vec<u32>>,
+}
+
+impl Brute {
+    pub fn new(shape: Shape, room: Capacities) -> Brute {
+        let (zones, cars) = (vec![None; room.zones as usize], vec![None; room.cars as usize]);
+        Brute { shape, room, zones, cars, cuts: HashMap::new() }
+    }
+
+    pub fn cut(&mut self, r: Rectangle) -> &[u32] {
+        if self.cuts.len() > 2000 {
+            self.cuts.clear();
+        }
+        let shape = self.shape;
+        self.cuts.entry(r).or_insert_with(|| cut(shape, r))
+    }
+
+    /// How many entries the standing zones have.
+    pub fn standing(&mut self) -> u32 {
+        let mut sum = 0;
+        for at in 0..self.zones.len() {
+            if let Some(r) = self.zones[at].filter(|&r| fits(self.shape, r)) {
+                sum += count(self.cut(r));
+            }
+        }
+        sum
+    }
+
+    pub fn zones_at(&self, at: Cell) -> Vec<u32> {
+        let held = |zone: &u32| self.zones[*zone as usize].is_some_and(|r| holds(r, at));
+        (0..self.room.zones).filter(held).collect()
+    }
+
+    pub fn car_cell(&self, car: u32) -> Option<Cell> {
+        self.cars[car as usize].and_then(|at| cell(self.shape, at))
+    }
+
+    pub fn in_zone(&self, zone: u32, car: u32) -> bool {
+        match (self.zones[zone as usize], self.car_cell(car)) {
+            (Some(r), Some(at)) => holds(r, at),
+            _ => false,
+        }
+    }
+
+    pub fn roster(&self, r: Rectangle) -> Vec<u32> {
+        (0..self.room.cars).filter(|&car| self.car_cell(car).is_some_and(|at| holds(r, at))).collect()
+    }
+
+    /// Twice the levels on which two cells lie in different squares.
+    fn differing(&self, old: Cell, new: Cell) -> u32 {
+        let differ = |&level: &u32| number(self.shape, level, old) != number(self.shape, level, new);
+        2 * count(&(0..=self.shape.k).filter(differ).collect::<Vec<_>>())
+    }
+
+    fn add(&mut self, zone: u32, r: Rectangle) -> Answer {
+        if zone >= self.room.zones {
+            return refused(4);
+        }
+        if self.zones[zone as usize].is_some() {
+            return refused(6);
+        }
+        if !fits(self.shape, r) {
+            return refused(9);
+        }
+        let squares = count(self.cut(r));
+        if self.standing() + squares > self.room.entries {
+            return refused(12);
+        }
+        done(vec![squares, count(&self.roster(r))], vec![])
+    }
+
+    fn standing_zone(&self, zone: u32) -> Result<Rectangle, u32> {
+        let record = self.zones.get(zone as usize).ok_or(4u32)?;
+        record.ok_or(7)
+    }
+
+    fn placed_car(&self, car: u32) -> Result<[u32; 2], u32> {
+        let record = self.cars.get(car as usize).ok_or(5u32)?;
+        record.ok_or(8)
+    }
+
+    fn short(&self, buffers: &[usize]) -> bool {
+        buffers.iter().any(|&length| length < self.room.zones as usize)
+    }
+
+    fn report(&self, car: u32, at: [u32; 2], buffers: &[usize]) -> Answer {
+        if car >= self.room.cars {
+            return refused(5);
+        }
+        let Some(new) = cell(self.shape, at) else { return refused(10) };
+        if self.short(buffers) {
+            return refused(11);
+        }
+        let holding = self.zones_at(new);
+        let Some(old) = self.car_cell(car) else {
+            return done(vec![self.shape.k + 1, count(&holding), 0], vec![holding, vec![]]);
+        };
+        let held = self.zones_at(old);
+        let without = |list: &[u32], other: &[u32]| -> Vec<u32> {
+            list.iter().copied().filter(|zone| !other.contains(zone)).collect()
+        };
+        let (entered, left) = (without(&holding, &held), without(&held, &holding));
+        done(vec![self.differing(old, new), count(&entered), count(&left)], vec![entered, left])
+    }
+
+    fn leave(&self, car: u32, buffers: &[usize]) -> Answer {
+        if let Err(refusal) = self.placed_car(car) {
+            return refused(refusal);
+        }
+        if self.short(buffers) {
+            return refused(11);
+        }
+        let left: Vec<u32> = (0..self.room.zones).filter(|&zone| self.in_zone(zone, car)).collect();
+        done(vec![self.shape.k + 1, count(&left)], vec![left])
+    }
+
+    fn search(&self, at: [u32; 2], buffers: &[usize]) -> Answer {
+        let Some(at) = cell(self.shape, at) else { return refused(10) };
+        if self.short(buffers) {
+            return refused(11);
+        }
+        let found = self.zones_at(at);
+        done(vec![self.shape.k + 1, count(&found)], vec![found])
+    }
+
+    fn list(&self, zone: u32, buffers: &[usize]) -> Answer {
+        let r = match self.standing_zone(zone) {
+            Ok(r) => r,
+            Err(refusal) => return refused(refusal),
+        };
+        if buffers[0] < self.room.cars as usize {
+            return refused(11);
+        }
+        let cars = self.roster(r);
+        done(vec![count(&cars)], vec![cars])
+    }
+
+    /// What a call on this town's tables answers; on unsound tables only its refusal means something.
+    pub fn answer(&mut self, call: &Call, buffers: &[usize]) -> Answer {
+        match *call {
+            Call::Add { zone, r } => self.add(zone, r),
+            Call::Remove { zone } => match self.standing_zone(zone) {
+                Ok(_) => done(vec![], vec![]),
+                Err(refusal) => refused(refusal),
+            },
+            Call::Report { car, at } => self.report(car, at, buffers),
+            Call::Leave { car } => self.leave(car, buffers),
+            Call::Search { at } => self.search(at, buffers),
+            Call::Roster { zone } => self.list(zone, buffers),
+            Call::Where { car } => match self.placed_car(car) {
+                Ok(at) => done(at.to_vec(), vec![]),
+                Err(refusal) => refused(refusal),
+            },
+            Call::Sound => done(vec![1], vec![]),
+            _ => unreachable!("a call that asks no town"),
+        }
+    }
+
+    /// Does what an accepted call does.
+    pub fn apply(&mut self, call: &Call) {
+        match *call {
+            Call::Add { zone, r } => self.zones[zone as usize] = Some(r),
+            Call::Remove { zone } => self.zones[zone as usize] = None,
+            Call::Report { car, at } => self.cars[car as usize] = Some(at),
+            Call::Leave { car } => self.cars[car as usize] = None,
+            _ => {}
+        }
+    }
+}
+
+/// What a call answers that asks no town, but a shape and lengths.
+pub fn answer_shape(call: &Call, lengths: [usize; 7], buffers: &[usize]) -> Answer {
+    let (Call::Open { shape, .. }
+    | Call::Lengths { shape, .. }
+    | Call::Number { shape, .. }
+    | Call::Square { shape, .. }
+    | Call::Cut { shape, .. }) = *call
+    else {
+        unreachable!("a call that asks a town")
+    };
+    if !allowed(shape) {
+        return refused(1);
+    }
+    match *call {
+        Call::Open { room, .. } | Call::Lengths { room, .. } if !roomy(room) => refused(2),
+        Call::Open { room, .. } if lengths != crate::layout::lengths(shape, room) => refused(3),
+        Call::Open { .. } => done(vec![], vec![]),
+        Call::Lengths { room, .. } => {
+            done(crate::layout::lengths(shape, room).map(|length| length as u32).to_vec(), vec![])
+        }
+        Call::Number { level, x, y, .. } => {
+            if level > shape.k || x >= columns(shape) || y >= rows(shape) {
+                return refused(13);
+            }
+            let side = 1 << (shape.k - level);
+            if x % side != 0 || y % side != 0 {
+                return refused(13);
+            }
+            done(vec![number(shape, level, (x, y))], vec![])
+        }
+        Call::Square { level, number, .. } => square(shape, level, number),
+        Call::Cut { r, .. } => {
+            if !fits(shape, r) {
+                return refused(9);
+            }
+            let squares = cut(shape, r);
+            if buffers[0] < squares.len() {
+                return refused(11);
+            }
+            done(vec![count(&squares)], vec![squares])
+        }
+        _ => unreachable!(),
+    }
+}
+
+/// The square of a number: the one whose corner has it.
+fn square(s: Shape, level: u32, wanted: u32) -> Answer {
+    if level > s.k || wanted >= squares_on(s, level) {
+        return refused(13);
+    }
+    let side = 1u32 << (s.k - level);
+    for y in (0..rows(s)).step_by(side as usize) {
+        for x in (0..columns(s)).step_by(side as usize) {
+            if number(s, level, (x, y)) == wanted {
+                return done(vec![x, y, side], vec![]);
+            }
+        }
+    }
+    unreachable!("every number below the count is a square's")
+}
+
+#[cfg(test)]
+mod tests {
+    use super::*;
+
+    const TOWN: Shape = Shape { k: 2, p: 4, q: 4 };
+
+    #[test]
+    fn the_documents_numbers() {
+        assert_eq!([2, 1, 0].map(|level| number(TOWN, level, (10, 11))), [174, 43, 10]);
+        let squares = cut(TOWN, Rectangle { a: 5, b: 2, w: 8, h: 12 });
+        assert_eq!([0, 1, 2].map(|level| squares.iter().filter(|&&code| code / LEVEL == level).count()), [2, 10, 24]);
+        assert_eq!(cut(TOWN, Rectangle { a: 0, b: 0, w: 1, h: 1 }), [2 * LEVEL]);
+        assert_eq!(cut(Shape { k: 0, p: 3, q: 2 }, Rectangle { a: 1, b: 0, w: 2, h: 2 }), [1, 2, 4, 5]);
+        let town = Brute::new(TOWN, Capacities { zones: 1, cars: 1, entries: 1 });
+        assert_eq!(town.differing((8, 8), (9, 8)), 2);
+        assert_eq!(town.differing((1, 1), (5, 1)), 6);
+        assert!(allowed(Shape { k: 5, p: 8, q: 1 }) && !allowed(Shape { k: 5, p: 9, q: 1 }));
+    }
+
+    #[test]
+    fn the_cell_of_a_float() {
+        let cases = [(0x3F7F_FFFF, Some(0)), (1, Some(0)), (0x3F80_0000, Some(1)), (0x437F_FFFF, Some(255))];
+        for (bits, cell) in cases.into_iter().chain([(0x4380_0000, None), (0x8000_0000, None), (0x7F80_0000, None)]) {
+            assert_eq!(coordinate(bits, 256), cell);
+        }
+        for bits in (0..0x4400_0000).step_by(997) {
+            let value = f32::from_bits(bits);
+            assert_eq!(coordinate(bits, 256), (value < 256.0).then_some(value as u32));
+        }
+    }
+}

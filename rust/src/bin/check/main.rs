@@ -1,0 +1,444 @@
+//! Drives the C functions and a brute-force town through the same random calls and compares every byte.
+//!
+//! `cargo run --release --bin check -- [calls] [seed]`
+
+mod brute;
+mod calls;
+mod layout;
+mod lent;
+mod random;
+
+use brute::{Answer, Brute};
+use calls::{Call, Size, KINDS};
+use lent::{Lent, Tables, SLACK};
+use random::Random;
+use std::{env, process};
+use unwadegiro::{Capacities, Shape};
+
+/// Whether what stands in the tables is known to be sound.
+#[derive(Clone, Copy, PartialEq)]
+enum State {
+    Sound,
+    Any,
+}
+
+struct Check {
+    random: Random,
+    tables: Tables,
+    town: Brute,
+    state: State,
+    made: u64,
+    // how often each kind of call got each number
+    seen: [[u64; 14]; 13],
+    sound_said: [u64; 2],
+}
+
+/// Says what was wrong, and ends.
+fn fail(call: &Call, what: &str, check: &Check) -> ! {
+    println!("call {}: {:?}", check.made, call);
+    println!("in a town {:?} with room for {:?}", check.town.shape, check.town.room);
+    println!("{what}");
+    process::exit(1)
+}
+
+impl Check {
+    /// A town whose tables hold noise.
+    fn new(seed: u64) -> Check {
+        let mut random = Random::new(seed);
+        let town = Brute::new(Shape { k: 0, p: 1, q: 1 }, Capacities { zones: 1, cars: 1, entries: 1 });
+        let tables = Tables::noise(layout::lengths(town.shape, town.room), &mut random);
+        Check { random, tables, town, state: State::Any, made: 0, seen: [[0; 14]; 13], sound_said: [0; 2] }
+    }
+
+    /// Lends one table with a wrong length, now and then.
+    fn choose_lengths(&mut self) {
+        let random = &mut self.random;
+        if !random.once_in(40) {
+            self.tables.lend(None);
+            return;
+        }
+        let at = random.below(7) as usize;
+        let own = self.tables.own()[at];
+        let length = match random.below(6) {
+            0 => 0,
+            1 => own - 1,
+            2 => own + 1,
+            3 => own + SLACK,
+            _ => random.below(own as u32 + SLACK as u32 + 1) as usize,
+        };
+        let null = random.once_in(2);
+        self.tables.lend(Some((at, length, null)));
+    }
+
+    /// Buffers of the length that a call asks for, or a little longer; now and then one too short.
+    fn choose_buffers(&mut self, call: &Call) -> Vec<Lent<u32>> {
+        let random = &mut self.random;
+        let asked = match *call {
+            Call::Roster { .. } => self.town.room.cars as usize,
+            Call::Cut { shape, r } if brute::allowed(shape) && brute::fits(shape, r) => brute::cut(shape, r).len(),
+            Call::Cut { .. } => 4,
+            _ => self.town.room.zones as usize,
+        };
+        let mut buffers = Vec::new();
+        for _ in 0..call.kind().buffers {
+            let length = match random.below(60) {
+                0 => 0,
+                1 => asked - 1,
+                2 => random.below(asked as u32 + 1) as usize,
+                3..=12 => asked + random.below(9) as usize,
+                _ => asked,
+            };
+            let mut buffer = Lent::noise(length, random);
+            buffer.lend(length, random.once_in(2));
+            buffers.push(buffer);
+        }
+        buffers
+    }
+
+    fn choose_values(&mut self, call: &Call) -> Lent<u32> {
+        let random = &mut self.random;
+        let fields = call.kind().fields;
+        let length = if random.once_in(8) { random.below(fields as u32 + 3) as usize } else { fields };
+        let mut values = Lent::noise(length, random);
+        values.lend(length, random.once_in(2));
+        values
+    }
+
+    /// What the call should answer. On tables that may be unsound the records are read from the tables.
+    fn expect(&mut self, call: &Call, buffers: &[usize]) -> Answer {
+        if !call.asks_town() {
+            return brute::answer_shape(call, self.tables.lent(), buffers);
+        }
+        let passes = match self.state {
+            State::Sound => self.tables.lent() == layout::lengths(self.town.shape, self.town.room),
+            State::Any => match layout::read(&self.tables) {
+                Some(town) => {
+                    self.town = town;
+                    true
+                }
+                None => false,
+            },
+        };
+        if !passes {
+            return Answer { refusal: 3, ..Answer::default() };
+        }
+        let mut answer = self.town.answer(call, buffers);
+        if self.state == State::Any && matches!(call, Call::Sound) {
+            answer.values = vec![layout::sound(&mut self.town, &self.tables) as u32];
+        }
+        answer
+    }
+
+    /// Makes a call and compares what it returned, every value, every buffer, every table and the bytes around them.
+    fn make(&mut self, call: Call) {
+        self.choose_lengths();
+        let mut buffers = self.choose_buffers(&call);
+        let mut values = self.choose_values(&call);
+        let lengths: Vec<usize> = buffers.iter().map(Lent::len).collect();
+        let answer = self.expect(&call, &lengths);
+        let returned = lent::drive(&call, &mut self.tables, &mut buffers, &mut values);
+        self.made += 1;
+        let gap = self.state == State::Any && call.asks_town() && !matches!(call, Call::Sound | Call::Where { .. });
+        let either = gap && matches!(call, Call::Add { .. }) && [0, 12].contains(&answer.refusal);
+        if returned != answer.refusal && !(either && [0, 12].contains(&returned)) {
+            fail(&call, &format!("it returned {returned}, and should have returned {}", answer.refusal), self);
+        }
+        self.seen[call.index()][returned as usize] += 1;
+        if returned == 0 && gap {
+            self.compare_gap(&call, &mut buffers, &mut values);
+            return;
+        }
+        if returned == 0 {
+            self.apply(&call);
+        }
+        self.compare(&call, returned, &answer, &mut buffers, &mut values);
+    }
+
+    /// Where an accepted call on unsound tables may write anything: it stayed within what it was lent.
+    fn compare_gap(&mut self, call: &Call, buffers: &mut [Lent<u32>], values: &mut Lent<u32>) {
+        self.tables.accept(call);
+        let wrong = self.tables.wrong();
+        if !wrong.is_empty() {
+            fail(call, &format!("it wrote where it may not, in or around {wrong:?}"), self);
+        }
+        if !buffers.iter_mut().all(Lent::accept) || !values.accept() {
+            fail(call, "it wrote beside a buffer or the values", self);
+        }
+    }
+
+    fn compare(&self, call: &Call, returned: u32, answer: &Answer, buffers: &mut [Lent<u32>], values: &mut Lent<u32>) {
+        let wrong = self.tables.wrong();
+        if !wrong.is_empty() {
+            fail(call, &format!("it returned {returned}, and {wrong:?} are not as they should be"), self);
+        }
+        let done = returned == 0;
+        for (at, buffer) in buffers.iter_mut().enumerate() {
+            if done {
+                buffer.image()[..answer.lists[at].len()].copy_from_slice(&answer.lists[at]);
+            }
+            if !buffer.right() {
+                let should: &[u32] = if done { &answer.lists[at] } else { &[] };
+                fail(call, &format!("buffer {at} should have {should:?} and then what it held"), self);
+            }
+        }
+        for at in 0..call.kind().fields.min(values.own()) {
+            let should = if done { answer.values[at] } else { 0 };
+            // a NaN may come back with other bits
+            let nan = f32::from_bits(should).is_nan() && f32::from_bits(values.now()[at]).is_nan();
+            values.image()[at] = if nan && matches!(call, Call::Where { .. }) { values.now()[at] } else { should };
+        }
+        if !values.right() {
+            fail(call, &format!("the values should be {:?}, and are {:?}", answer.values, values.now()), self);
+        }
+    }
+
+    /// Does what an accepted call does: to the brute-force town, and to what the tables should hold.
+    fn apply(&mut self, call: &Call) {
+        if let Call::Open { shape, room } = *call {
+            self.town = Brute::new(shape, room);
+            self.state = State::Sound;
+            self.tables.keep();
+            let Capacities { zones, cars, entries } = room;
+            self.tables.head.image().copy_from_slice(&[shape.k, shape.p, shape.q, zones, cars, entries]);
+            for table in [&mut self.tables.zones, &mut self.tables.cars, &mut self.tables.spots] {
+                table.image().fill(0);
+            }
+            self.tables.starts.image().fill(0);
+            self.tables.entries.image().fill(layout::FREE);
+            self.tables.rosters.image().fill(0);
+            return;
+        }
+        self.town.apply(call);
+        let (town, tables) = (&mut self.town, &mut self.tables);
+        match *call {
+            Call::Add { zone, r } => {
+                tables.zones.image()[4 * zone as usize..][..4].copy_from_slice(&[r.a, r.b, r.w, r.h]);
+                derive_zone(town, tables, zone);
+            }
+            Call::Remove { zone } => {
+                tables.zones.image()[4 * zone as usize + 2] = 0;
+                derive_zone(town, tables, zone);
+            }
+            Call::Report { car, at } => {
+                tables.cars.image()[car as usize] = 1;
+                tables.spots.image()[2 * car as usize..][..2].copy_from_slice(&at);
+                derive_car(town, tables, car);
+            }
+            Call::Leave { car } => {
+                tables.cars.image()[car as usize] = 0;
+                derive_car(town, tables, car);
+            }
+            _ => {}
+        }
+    }
+
+    /// Compares the derived tables of a sound town with their content worked out afresh.
+    fn compare_afresh(&mut self) {
+        let (starts, entries) = layout::lists(&mut self.town).expect("the keys fit");
+        self.tables.lend(None);
+        let tables = &self.tables;
+        let same = tables.starts.now() == starts
+            && tables.entries.now() == entries
+            && tables.rosters.now() == layout::rosters(&self.town);
+        if !same {
+            fail(&Call::Sound, "the derived tables are not what the records give afresh", self);
+        }
+    }
+
+    /// Changes one number of the tables and asks whether they are sound, then puts it back.
+    fn probe(&mut self) {
+        let random = &mut self.random;
+        let table = random.pick(&[1usize, 2, 3, 4, 4, 5, 5, 6, 6]);
+        let at = random.below(self.tables.own()[table] as u32) as usize;
+        let change = random.below(6);
+        let other = random.bits();
+        let changed = move |old: u32| match change {
+            0 => old.wrapping_add(1),
+            1 => old.wrapping_sub(1),
+            2 => old ^ 1 << (other % 32),
+            3 => 0,
+            4 => old.wrapping_add(256),
+            _ => other,
+        };
+        self.tables.lend(None);
+        self.state = State::Any;
+        if table == 6 {
+            let old = self.tables.rosters.now()[at];
+            self.tables.rosters.put(at, changed(old as u32) as u8);
+            self.ask_sound();
+            self.tables.rosters.put(at, old);
+        } else {
+            let old = self.tables.words()[table].now()[at];
+            self.tables.words()[table].put(at, changed(old));
+            self.ask_sound();
+            self.tables.words()[table].put(at, old);
+        }
+        self.tables.lend(None);
+        self.state = State::Sound;
+        self.town = layout::read(&self.tables).expect("sound tables pass check 3");
+    }
+
+    /// Changes a number that means nothing, or a car's number to another that means on the map: the tables stay sound.
+    fn stir(&mut self) {
+        let random = &mut self.random;
+        let (zone, car) = (random.below(self.town.room.zones) as usize, random.below(self.town.room.cars) as usize);
+        if self.town.zones[zone].is_none() {
+            self.tables.zones.put(4 * zone + random.pick(&[0, 1, 3]), random.bits());
+        }
+        match self.town.cars[car] {
+            None => self.tables.spots.put(2 * car + random.below(2) as usize, random.bits()),
+            Some(_) => self.tables.cars.put(car, random.between(1, u32::MAX - 1)),
+        }
+    }
+
+    /// Asks whether the tables are sound, and counts how often they are and are not.
+    fn ask_sound(&mut self) {
+        self.tables.lend(None);
+        if let Some(mut town) = layout::read(&self.tables) {
+            self.sound_said[layout::sound(&mut town, &self.tables) as usize] += 1;
+        }
+        self.make(Call::Sound);
+    }
+
+    /// Writes noise into the tables: a few numbers, or whole tables; head mostly stays.
+    fn spoil(&mut self) {
+        self.state = State::Any;
+        let random = &mut self.random;
+        let whole = random.once_in(3);
+        let own = self.tables.own();
+        for table in 0..7 {
+            if table == 0 && !random.once_in(20) || table != 0 && random.once_in(2) {
+                continue;
+            }
+            let times = if whole && table != 0 { own[table] } else { 1 + random.below(3) as usize };
+            for turn in 0..times {
+                let at = if times == own[table] { turn } else { random.below(own[table] as u32) as usize };
+                let word = match random.below(4) {
+                    0 => random.bits(),
+                    1 => random.below(4),
+                    2 => random.below(300),
+                    _ => random.below(own[5] as u32 + 2),
+                };
+                match table {
+                    6 => self.tables.rosters.put(at, word as u8),
+                    _ => self.tables.words()[table].put(at, word),
+                }
+            }
+        }
+    }
+
+    /// One town: calls on noise, an open, calls on sound tables, and at times calls on spoilt ones.
+    fn live(&mut self, size: Size, last: u64) {
+        let (shape, room) = (calls::shape(&mut self.random, size), calls::capacities(&mut self.random, size));
+        self.tables = Tables::noise(layout::lengths(shape, room), &mut self.random);
+        self.town = Brute::new(shape, room);
+        self.state = State::Any;
+        for _ in 0..3 {
+            let call = calls::call(&mut self.random, &self.town);
+            self.make(call);
+        }
+        // one of these may have opened it
+        while self.state != State::Sound {
+            self.make(Call::Open { shape, room });
+        }
+        self.live_sound(size, (self.made + 2000).min(last));
+        if self.random.once_in(2) {
+            self.live_spoilt((self.made + 500).min(last));
+        }
+    }
+
+    fn live_sound(&mut self, size: Size, end: u64) {
+        while self.made < end {
+            let call = calls::call(&mut self.random, &self.town);
+            self.make(call);
+            if self.random.once_in(if size == Size::Large { 200 } else { 50 }) {
+                self.probe();
+            }
+            if self.random.once_in(30) {
+                self.stir();
+            }
+            if self.random.once_in(300) {
+                self.compare_afresh();
+            }
+        }
+        self.compare_afresh();
+    }
+
+    fn live_spoilt(&mut self, end: u64) {
+        while self.made < end {
+            if self.random.once_in(20) || self.state == State::Sound {
+                self.spoil();
+                self.ask_sound();
+            }
+            let call = calls::call(&mut self.random, &self.town);
+            self.make(call);
+        }
+    }
+
+    fn run(&mut self, last: u64) {
+        while self.made < last {
+            let size = match self.random.below(10) {
+                0 => Size::Large,
+                1..=3 => Size::Middle,
+                _ => Size::Small,
+            };
+            self.live(size, last);
+        }
+    }
+
+    /// Prints how often each call got each number. Answers whether each that can be given was given.
+    fn tell(&self) -> bool {
+        let mut all = true;
+        for (kind, seen) in KINDS.iter().zip(&self.seen) {
+            print!("{:8} done {:8}", kind.name, seen[0]);
+            for &refusal in kind.refusals {
+                print!("   {refusal}: {}", seen[refusal as usize]);
+                all &= seen[refusal as usize] > 0;
+            }
+            println!();
+            all &= seen[0] > 0;
+        }
+        println!("of changed tables {} were sound and {} were not", self.sound_said[1], self.sound_said[0]);
+        all && self.sound_said[0] > 0 && self.sound_said[1] > 0
+    }
+}
+
+/// The rows and columns of zones that an added or removed zone changes: its roster, and all lists.
+fn derive_zone(town: &mut Brute, tables: &mut Tables, zone: u32) {
+    let (starts, entries) = layout::lists(town).expect("an accepted add has room");
+    tables.starts.image().copy_from_slice(&starts);
+    tables.entries.image().copy_from_slice(&entries);
+    for car in 0..town.room.cars {
+        tables.rosters.image()[(zone * town.room.cars + car) as usize] = town.in_zone(zone, car) as u8;
+    }
+}
+
+/// What a report or a leave changes: its car on all rosters.
+fn derive_car(town: &Brute, tables: &mut Tables, car: u32) {
+    for zone in 0..town.room.zones {
+        tables.rosters.image()[(zone * town.room.cars + car) as usize] = town.in_zone(zone, car) as u8;
+    }
+}
+
+fn main() {
+    let mut words = env::args().skip(1);
+    let mut word = |otherwise: u64| match words.next() {
+        Some(word) => word.parse().unwrap_or_else(|_| {
+            eprintln!("usage: check [calls] [seed]");
+            process::exit(2)
+        }),
+        None => otherwise,
+    };
+    let (calls, seed) = (word(2_000_000), word(1));
+    let mut check = Check::new(seed);
+    check.run(calls);
+    let all = check.tell();
+    println!(
+        "{} calls with seed {seed}: all answers, values, buffers, tables and guards as they should be",
+        check.made
+    );
+    if !all && calls >= 1_000_000 {
+        println!("but some number that can be given was never given");
+        process::exit(1);
+    }
+}

@@ -1,0 +1,357 @@
+//! A town that owns its tables.
+
+use crate::raw;
+use crate::{Rectangle, Refusal, Shape};
+
+/// A car's position: two 32-bit floats, kept as they came.
+#[derive(Clone, Copy, Debug, PartialEq)]
+pub struct Position {
+    pub x: f32,
+    pub y: f32,
+}
+
+/// How much a town has room for: 1 to 256 zones, 1 to 1,024 cars, 1 to 16,384 entries. An entry is one zone on one
+/// square's list.
+#[derive(Clone, Copy, Debug, PartialEq, Eq, Hash)]
+pub struct Capacities {
+    pub zones: u32,
+    pub cars: u32,
+    pub entries: u32,
+}
+
+/// A zone was added.
+#[derive(Clone, Copy, Debug, PartialEq, Eq)]
+pub struct Added {
+    /// How many squares its cut has.
+    pub squares: u32,
+    /// How many cars are inside.
+    pub cars: u32,
+}
+
+/// A car was placed or moved. The zones stand lowest first.
+#[derive(Clone, Copy, Debug, PartialEq, Eq)]
+pub struct Reported<'a> {
+    /// Squares looked into.
+    pub squares: u32,
+    /// Zones that hold the new cell and not the old.
+    pub entered: &'a [u32],
+    /// Zones that hold the old cell and not the new.
+    pub left: &'a [u32],
+}
+
+/// A car left the map. The zones stand lowest first.
+#[derive(Clone, Copy, Debug, PartialEq, Eq)]
+pub struct Departed<'a> {
+    /// Squares looked into.
+    pub squares: u32,
+    /// Zones that it was in.
+    pub left: &'a [u32],
+}
+
+/// What a search found. The zones stand lowest first.
+#[derive(Clone, Copy, Debug, PartialEq, Eq)]
+pub struct Found<'a> {
+    /// Squares looked into.
+    pub squares: u32,
+    /// Zones that hold the position.
+    pub zones: &'a [u32],
+}
+
+/// A town: its zones, its cars, and which car is in which zone.
+///
+/// It owns its tables and the buffers that lists are written into, all made by [`Town::open`]; no other call allocates.
+/// A list that a call gives lies in such a buffer until the next call.
+///
+/// ```
+/// use unwadegiro::{Capacities, Position, Rectangle, Shape, Town};
+///
+/// let shape = Shape { k: 2, p: 4, q: 4 };
+/// let mut town = Town::open(shape, Capacities { zones: 16, cars: 64, entries: 2048 })?;
+/// assert_eq!(town.add(1, Rectangle { a: 5, b: 2, w: 8, h: 12 })?.squares, 36);
+///
+/// let came = town.report(7, Position { x: 5.5, y: 3.0 })?;
+/// assert_eq!((came.squares, came.entered, came.left), (3, &[1][..], &[][..]));
+/// assert_eq!(town.roster(1)?, [7]);
+///
+/// let gone = town.leave(7)?;
+/// assert_eq!(gone.left, [1]);
+/// assert!(town.is_sound());
+/// # Ok::<(), unwadegiro::Refusal>(())
+/// ```
+#[derive(Clone, Debug)]
+pub struct Town {
+    head: Vec<u32>,
+    zones: Vec<u32>,
+    cars: Vec<u32>,
+    spots: Vec<f32>,
+    starts: Vec<u32>,
+    entries: Vec<u32>,
+    rosters: Vec<u8>,
+    // room for the lists that a call answers
+    came: Vec<u32>,
+    went: Vec<u32>,
+    inside: Vec<u32>,
+}
+
+/// Calls a C function with a town's tables, each lent by the method named with it, and then the other arguments.
+///
+/// SAFETY of every use: each table and each buffer is a whole vector of its own or a local array, so each pointer is
+/// valid for its length and no two overlap; the C functions stay within what they are lent and keep nothing.
+macro_rules! call {
+    ($call:ident, $town:ident, [$($table:ident.$lend:ident),*] $(, $rest:expr)*) => {
+        Refusal::check(unsafe { raw::$call($($town.$table.$lend(), $town.$table.len(),)* $($rest),*) })
+    };
+}
+
+/// The same for a call that changes no table.
+macro_rules! read {
+    ($call:ident, $town:ident $(, $rest:expr)*) => {
+        call!(
+            $call,
+            $town,
+            [
+                head.as_ptr,
+                zones.as_ptr,
+                cars.as_ptr,
+                spots.as_ptr,
+                starts.as_ptr,
+                entries.as_ptr,
+                rosters.as_ptr
+            ]
+            $(, $rest)*
+        )
+    };
+}
+
+impl Town {
+    /// A town with no zone and no car. Refusals: [`Refusal::Shape`], [`Refusal::Capacity`].
+    ///
+    /// ```
+    /// use unwadegiro::{Capacities, Refusal, Shape, Town};
+    /// let room = Capacities { zones: 1, cars: 1, entries: 1 };
+    /// assert_eq!(Town::open(Shape { k: 5, p: 9, q: 1 }, room).err(), Some(Refusal::Shape));
+    /// ```
+    pub fn open(shape: Shape, capacities: Capacities) -> Result<Town, Refusal> {
+        let Shape { k, p, q } = shape;
+        let Capacities { zones, cars, entries } = capacities;
+        let mut lengths = [0; 7];
+        // SAFETY: `lengths` is valid for its length.
+        Refusal::check(unsafe {
+            raw::unwadegiro_lengths(k, p, q, zones, cars, entries, lengths.as_mut_ptr(), lengths.len())
+        })?;
+        let long = lengths.map(|length| length as usize);
+        let mut town = Town {
+            head: vec![0; long[0]],
+            zones: vec![0; long[1]],
+            cars: vec![0; long[2]],
+            spots: vec![0.0; long[3]],
+            starts: vec![0; long[4]],
+            entries: vec![0; long[5]],
+            rosters: vec![0; long[6]],
+            came: vec![0; zones as usize],
+            went: vec![0; zones as usize],
+            inside: vec![0; cars as usize],
+        };
+        town.reopen(shape, capacities)?;
+        Ok(town)
+    }
+
+    /// Writes an empty town into the tables that stand. [`Refusal::Tables`] where they have other lengths.
+    fn reopen(&mut self, shape: Shape, capacities: Capacities) -> Result<(), Refusal> {
+        call!(
+            unwadegiro_open,
+            self,
+            [
+                head.as_mut_ptr,
+                zones.as_mut_ptr,
+                cars.as_mut_ptr,
+                spots.as_mut_ptr,
+                starts.as_mut_ptr,
+                entries.as_mut_ptr,
+                rosters.as_mut_ptr
+            ],
+            shape.k,
+            shape.p,
+            shape.q,
+            capacities.zones,
+            capacities.cars,
+            capacities.entries
+        )
+    }
+
+    /// Takes every zone and every car away.
+    pub fn clear(&mut self) {
+        let (shape, capacities) = (self.shape(), self.capacities());
+        self.reopen(shape, capacities).expect("a town's own shape and capacities open it again");
+    }
+
+    /// The town's shape.
+    pub fn shape(&self) -> Shape {
+        Shape { k: self.head[0], p: self.head[1], q: self.head[2] }
+    }
+
+    /// The town's capacities.
+    pub fn capacities(&self) -> Capacities {
+        Capacities { zones: self.head[3], cars: self.head[4], entries: self.head[5] }
+    }
+
+    /// Adds a zone. Cars that stand in it are on its roster at once. Refusals: [`Refusal::NoSuchZone`],
+    /// [`Refusal::ZoneStands`], [`Refusal::Rectangle`], [`Refusal::NoRoom`].
+    pub fn add(&mut self, zone: u32, r: Rectangle) -> Result<Added, Refusal> {
+        let mut values = [0; 2];
+        call!(
+            unwadegiro_add,
+            self,
+            [
+                head.as_ptr,
+                zones.as_mut_ptr,
+                cars.as_ptr,
+                spots.as_ptr,
+                starts.as_mut_ptr,
+                entries.as_mut_ptr,
+                rosters.as_mut_ptr
+            ],
+            zone,
+            r.a,
+            r.b,
+            r.w,
+            r.h,
+            values.as_mut_ptr(),
+            values.len()
+        )?;
+        let [squares, cars] = values;
+        Ok(Added { squares, cars })
+    }
+
+    /// Removes a zone. Its entries and its number are free for later zones. Refusals: [`Refusal::NoSuchZone`],
+    /// [`Refusal::ZoneStandsNot`].
+    pub fn remove(&mut self, zone: u32) -> Result<(), Refusal> {
+        call!(
+            unwadegiro_remove,
+            self,
+            [
+                head.as_ptr,
+                zones.as_mut_ptr,
+                cars.as_ptr,
+                spots.as_ptr,
+                starts.as_mut_ptr,
+                entries.as_mut_ptr,
+                rosters.as_mut_ptr
+            ],
+            zone
+        )
+    }
+
+    /// Places or moves a car. Refusals: [`Refusal::NoSuchCar`], [`Refusal::PositionOffMap`].
+    ///
+    /// ```
+    /// # use unwadegiro::{Capacities, Position, Rectangle, Refusal, Shape, Town};
+    /// # let room = Capacities { zones: 2, cars: 2, entries: 64 };
+    /// let mut town = Town::open(Shape { k: 2, p: 4, q: 4 }, room)?;
+    /// town.add(0, Rectangle { a: 8, b: 8, w: 1, h: 1 })?;
+    /// assert_eq!(town.report(1, Position { x: 8.0, y: 8.0 })?.entered, [0]);
+    /// assert_eq!(town.report(1, Position { x: 9.0, y: 8.0 })?.left, [0]);
+    /// assert_eq!(town.report(1, Position { x: 16.0, y: 8.0 }), Err(Refusal::PositionOffMap));
+    /// # Ok::<(), Refusal>(())
+    /// ```
+    pub fn report(&mut self, car: u32, at: Position) -> Result<Reported<'_>, Refusal> {
+        let mut values = [0; 3];
+        call!(
+            unwadegiro_report,
+            self,
+            [
+                head.as_ptr,
+                zones.as_ptr,
+                cars.as_mut_ptr,
+                spots.as_mut_ptr,
+                starts.as_ptr,
+                entries.as_ptr,
+                rosters.as_mut_ptr
+            ],
+            car,
+            at.x,
+            at.y,
+            self.came.as_mut_ptr(),
+            self.came.len(),
+            self.went.as_mut_ptr(),
+            self.went.len(),
+            values.as_mut_ptr(),
+            values.len()
+        )?;
+        let [squares, came, went] = values;
+        Ok(Reported { squares, entered: &self.came[..came as usize], left: &self.went[..went as usize] })
+    }
+
+    /// Takes a car off the map. Refusals: [`Refusal::NoSuchCar`], [`Refusal::CarOffMap`].
+    pub fn leave(&mut self, car: u32) -> Result<Departed<'_>, Refusal> {
+        let mut values = [0; 2];
+        call!(
+            unwadegiro_leave,
+            self,
+            [
+                head.as_ptr,
+                zones.as_ptr,
+                cars.as_mut_ptr,
+                spots.as_ptr,
+                starts.as_ptr,
+                entries.as_ptr,
+                rosters.as_mut_ptr
+            ],
+            car,
+            self.went.as_mut_ptr(),
+            self.went.len(),
+            values.as_mut_ptr(),
+            values.len()
+        )?;
+        let [squares, went] = values;
+        Ok(Departed { squares, left: &self.went[..went as usize] })
+    }
+
+    /// The zones that hold a position. Refusal: [`Refusal::PositionOffMap`].
+    pub fn search(&mut self, at: Position) -> Result<Found<'_>, Refusal> {
+        let mut values = [0; 2];
+        read!(
+            unwadegiro_search,
+            self,
+            at.x,
+            at.y,
+            self.came.as_mut_ptr(),
+            self.came.len(),
+            values.as_mut_ptr(),
+            values.len()
+        )?;
+        let [squares, zones] = values;
+        Ok(Found { squares, zones: &self.came[..zones as usize] })
+    }
+
+    /// The cars in a zone, lowest first. Refusals: [`Refusal::NoSuchZone`], [`Refusal::ZoneStandsNot`].
+    pub fn roster(&mut self, zone: u32) -> Result<&[u32], Refusal> {
+        let mut values = [0; 1];
+        read!(
+            unwadegiro_roster,
+            self,
+            zone,
+            self.inside.as_mut_ptr(),
+            self.inside.len(),
+            values.as_mut_ptr(),
+            values.len()
+        )?;
+        Ok(&self.inside[..values[0] as usize])
+    }
+
+    /// Where a car is: the position of its last accepted report. Refusals: [`Refusal::NoSuchCar`],
+    /// [`Refusal::CarOffMap`].
+    pub fn where_is(&self, car: u32) -> Result<Position, Refusal> {
+        let mut position = [0.0; 2];
+        read!(unwadegiro_where, self, car, position.as_mut_ptr(), position.len())?;
+        let [x, y] = position;
+        Ok(Position { x, y })
+    }
+
+    /// Whether the tables are sound. They always are: every call on sound tables leaves them sound.
+    pub fn is_sound(&self) -> bool {
+        let mut values = [0; 1];
+        let checked = read!(unwadegiro_sound, self, values.as_mut_ptr(), values.len());
+        checked.is_ok() && values[0] == 1
+    }
+}

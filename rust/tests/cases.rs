@@ -1,0 +1,92 @@
+// The documents' cases, through the safe calls.
+use unwadegiro::{cut, number, square, Capacities, Position, Rectangle, Refusal, Shape, Square, Town, LEVEL};
+
+const TOWN: Shape = Shape { k: 2, p: 4, q: 4 };
+const ROOM: Capacities = Capacities { zones: 16, cars: 64, entries: 2048 };
+
+fn at(x: f32, y: f32) -> Position {
+    Position { x, y }
+}
+
+fn rectangle(a: u32, b: u32, w: u32, h: u32) -> Rectangle {
+    Rectangle { a, b, w, h }
+}
+
+#[test]
+fn squares_of_a_cell() {
+    assert_eq!(number(TOWN, 2, 10, 11), Ok(174));
+    assert_eq!(number(TOWN, 1, 10, 10), Ok(43));
+    assert_eq!(number(TOWN, 0, 8, 8), Ok(10));
+    assert_eq!(number(TOWN, 1, 9, 10), Err(Refusal::NoSuchSquare));
+    assert_eq!(square(TOWN, 2, 174), Ok(Square { x: 10, y: 11, side: 1 }));
+    assert_eq!(number(Shape { k: 5, p: 9, q: 1 }, 0, 0, 0), Err(Refusal::Shape));
+}
+
+#[test]
+fn cuts() {
+    let mut room = [0; 64];
+    let squares = cut(TOWN, rectangle(5, 2, 8, 12), &mut room).unwrap();
+    let on_level = [0, 1, 2].map(|level| squares.iter().filter(|&&code| code / LEVEL == level).count());
+    assert_eq!(on_level, [2, 10, 24]);
+    assert_eq!(cut(TOWN, rectangle(0, 0, 16, 16), &mut room).unwrap().len(), 16);
+    assert_eq!(cut(TOWN, rectangle(0, 0, 1, 1), &mut room).unwrap(), [2 * LEVEL]);
+    assert_eq!(cut(Shape { k: 0, p: 3, q: 2 }, rectangle(1, 0, 2, 2), &mut room).unwrap(), [1, 2, 4, 5]);
+    assert_eq!(cut(TOWN, rectangle(8, 0, 8, 1), &mut room).unwrap().len(), 8);
+    assert_eq!(cut(TOWN, rectangle(8, 0, 9, 1), &mut room), Err(Refusal::Rectangle));
+    assert_eq!(cut(TOWN, rectangle(u32::MAX, 0, 1, 1), &mut room), Err(Refusal::Rectangle));
+    assert_eq!(cut(TOWN, rectangle(5, 2, 8, 12), &mut room[..35]), Err(Refusal::BufferTooShort));
+}
+
+#[test]
+fn whole_case() {
+    let mut town = Town::open(TOWN, ROOM).unwrap();
+    let added = town.add(1, rectangle(5, 2, 8, 12)).unwrap();
+    assert_eq!((added.squares, added.cars), (36, 0));
+    let came = town.report(7, at(5.5, 3.0)).unwrap();
+    assert_eq!((came.squares, came.entered, came.left), (3, &[1][..], &[][..]));
+    let moved = town.report(7, at(10.0, 11.0)).unwrap();
+    assert_eq!((moved.squares, moved.entered, moved.left), (6, &[][..], &[][..]));
+    assert_eq!(town.where_is(7), Ok(at(10.0, 11.0)));
+    assert_eq!(town.search(at(10.0, 11.0)).unwrap().zones, [1]);
+    assert_eq!(town.roster(1).unwrap(), [7]);
+    assert_eq!(town.add(1, rectangle(0, 0, 1, 1)), Err(Refusal::ZoneStands));
+    let gone = town.leave(7).unwrap();
+    assert_eq!((gone.squares, gone.left), (3, &[1][..]));
+    assert_eq!(town.roster(1).unwrap(), []);
+    assert!(town.is_sound());
+}
+
+#[test]
+fn squares_looked_into() {
+    let mut town = Town::open(TOWN, ROOM).unwrap();
+    town.report(0, at(8.0, 8.0)).unwrap();
+    assert_eq!(town.report(0, at(9.0, 8.0)).unwrap().squares, 2);
+    assert_eq!(town.report(0, at(9.5, 8.5)).unwrap().squares, 0);
+    town.report(1, at(1.0, 1.0)).unwrap();
+    assert_eq!(town.report(1, at(5.0, 1.0)).unwrap().squares, 6);
+}
+
+#[test]
+fn positions_at_the_edge() {
+    let wide = Shape { k: 5, p: 8, q: 8 };
+    let mut town = Town::open(wide, ROOM).unwrap();
+    town.add(0, rectangle(0, 0, 1, 1)).unwrap();
+    town.add(255 % 16, rectangle(255, 0, 1, 1)).unwrap();
+    let zones =
+        |town: &mut Town, bits: u32| town.search(at(f32::from_bits(bits), 0.0)).map(|found| found.zones.to_vec());
+    assert_eq!(zones(&mut town, 0x3F7FFFFF), Ok(vec![0]));
+    assert_eq!(zones(&mut town, 0x00000001), Ok(vec![0]));
+    assert_eq!(zones(&mut town, 0x3F800000), Ok(vec![]));
+    assert_eq!(zones(&mut town, 0x437FFFFF), Ok(vec![15]));
+    assert_eq!(zones(&mut town, 0x43800000), Err(Refusal::PositionOffMap));
+}
+
+#[test]
+fn refusals_have_their_numbers() {
+    for (at, refusal) in Refusal::ALL.into_iter().enumerate() {
+        assert_eq!(refusal.number() as usize, at + 1);
+        assert_eq!(Refusal::from_number(refusal.number()), Some(refusal));
+    }
+    assert_eq!(Refusal::from_number(0), None);
+    assert_eq!(Refusal::from_number(14), None);
+}
