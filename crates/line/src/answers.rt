@@ -2,24 +2,15 @@
 ghost use Prim.Native.Nat.{_+_, _*_, _≤_};
 ghost use mathlib.Core.Path.{_≡_};
 ghost use mathlib.Core.List.{[], _∷_};
-ghost use lib.ListN.{length, set};
+ghost use lib.ListN.{length};
 ghost use Rattle.line.specs.Text.{text, followed, listed, number, members, answer, Answers};
 ghost use Rattle.line.specs.Leaves.{Puts};
-
-// A byte is stored where the buffer has that place.
-fn store_byte(out: &mut [u8], at: usize, byte: u8)
-    ensures { λ _. ⌜ now (out .exit) ≡ set (now (out .entry)) at byte ⌝ }
-{
-    if at < out.len() {
-        out[at] = byte;
-    }
-}
 
 fn put_byte(out: &mut [u8], at: usize, byte: u8) -> usize
     requires { ⌜ at ≤ 4096 ⌝ }
     ensures { λ r. ⌜ Puts (now (out .entry)) (now (out .exit)) at r (byte ∷ []) 1 ⌝ }
 {
-    store_byte(out, at, byte);
+    order::store_byte(out, at, byte);
     at + 1
 }
 

@@ -42,6 +42,15 @@ pub fn store(buffer: &mut [u32], n: usize, x: u32)
     }
 }
 
+// The same for a buffer of bytes.
+pub fn store_byte(buffer: &mut [u8], n: usize, x: u8)
+    ensures { λ _. ⌜ now (buffer .exit) ≡ set (now (buffer .entry)) n x ⌝ }
+{
+    if n < buffer.len() {
+        buffer[n] = x;
+    }
+}
+
 // x is put in its place among the first n numbers, unless it is there or the buffer is full.
 // Answers how many there are now.
 pub fn put(buffer: &mut [u32], n: usize, x: u32) -> usize

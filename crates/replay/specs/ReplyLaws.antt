@@ -7,7 +7,7 @@ use native.Mathlib.Omega.{arith}
 use lib.Dec.{lit<, lit≤}
 use lib.ListN.{length, take}
 use lib.Seq.{length-take-le}
-use borrow.Author.Tests.{le-leb, lt-leb}
+use borrow.Author.Tests.{le-leb, lt-leb, leb-true}
 use Rattle.order.specs.Order.{upto, keep}
 use Rattle.order.specs.KeepLaws.{length-keep, length-span}
 use Rattle.order.specs.BufferLaws.{take-over}
@@ -30,10 +30,10 @@ use Rattle.town.specs.declared.answers.Added.{Added}
 use Rattle.town.specs.declared.answers.Reported.{Reported}
 use Rattle.town.specs.declared.answers.Departed.{Departed}
 use Rattle.town.specs.Promises.{Opens, openRefusal, emptyTown, Adds, addBars, addRefusal, Removes, removeRefusal, Reports, reportRefusal, Leaves, leaveRefusal, Searches, searchRefusal, Lists, listRefusal}
-use Rattle.town.specs.AddLaws.{bars-none}
+use Rattle.town.specs.AddLaws.{bars-none, add-room}
 use Rattle.town.specs.OpenLaws.{empty-sound, open-0}
 use Rattle.seasons.specs.Events.{added, removed, reported, left as departed}
-use Rattle.seasons.specs.PromiseLaws.{next, add-taken}
+use Rattle.seasons.specs.PromiseLaws.{next}
 use Rattle.line.specs.declared.records.Record.{Record}
 use Rattle.line.specs.declared.records.Record.the-variants.{Bad, Open, Add, Remove, Report, Leave, Search, Roster}
 use Rattle.line.specs.Text.{Part, number, answer, Answers}
@@ -114,7 +114,7 @@ module _ {t : Tables} (ready : Ready t) where
         (λ e.
         let s = sound-add z r (bars-none (lent t) z r e) in
         let d = p .done e s .0 in
-        (omega (arith, ap addedSquares d, add-taken (lent t) z r e .room, entries-2048 ready s), few-kept _ _ _ _ (ap addedCars d) (cars-64 ready s)))
+        (omega (arith, ap addedSquares d, leb-true _ _ (add-room (lent t) z r e), entries-2048 ready s), few-kept _ _ _ _ (ap addedCars d) (cars-64 ready s)))
         (λ f. let d = p .refused f (sound-add z r) .0 in (omega (arith, ap addedSquares d), omega (arith, ap addedCars d)))
 
     pub add-replies : {b b′ : List ℕ} {n : ℕ} → Answers b b′ n (answer 65 (addedParts a)) → Replies t (into t u) (Add z (r .a) (r .b) (r .w) (r .h)) b b′ n

@@ -55,7 +55,7 @@ pub fn open_record(
     tell_opened(answer, out)
 }
 
-// A
+// A: a zone added.
 pub fn add_record(
     head: &[u32],
     zones: &mut [u32],
@@ -86,7 +86,7 @@ pub fn add_record(
     tell_added(answer, out)
 }
 
-// D
+// D: a zone taken away.
 pub fn remove_record(
     head: &[u32],
     zones: &mut [u32],
@@ -115,7 +115,7 @@ pub fn remove_record(
     tell_removed(answer, out)
 }
 
-// P
+// P: a car placed or moved.
 pub fn report_record(
     head: &[u32],
     zones: &[u32],
@@ -151,7 +151,7 @@ pub fn report_record(
     tell_reported(answer, &entered, &left, out)
 }
 
-// L
+// L: a car taken off the map.
 pub fn leave_record(
     head: &[u32],
     zones: &[u32],

@@ -8,7 +8,7 @@ ghost use Rattle.replay.specs.Room.{Ready};
 ghost use Rattle.replay.specs.Replies.{Replies};
 ghost use Rattle.line.specs.declared.records.Record.the-variants.{Search, Roster};
 
-// S
+// S: the zones that hold a position.
 pub fn search_record(
     head: &[u32],
     zones: &[u32],
@@ -40,7 +40,7 @@ pub fn search_record(
     tell_searched(answer, &found, out)
 }
 
-// R
+// R: the cars of a zone.
 pub fn roster_record(
     head: &[u32],
     zones: &[u32],

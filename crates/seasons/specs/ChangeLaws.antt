@@ -1,30 +1,28 @@
 -- What each change makes of sound tables: a step, sound again, whose records are the change of the records.
-use Prim.Native.Nat.{ℕ, _+_, _<_, _≤_}
+use Prim.Native.Nat.{ℕ, _<_}
 use mathlib.Core.Path.{_≡_, refl, ap, _∙_}
 use mathlib.Core.Logic.{⊎-elim}
 use mathlib.Core.Bool.{Bool, true, false, cond}
 use mathlib.Core.Option.{Option, none, some}
 use native.Mathlib.Omega.{arith}
 use lib.Dec.{ltb, eqb}
-use lib.ListN.{length, set}
-use borrow.Author.Tests.{le-leb, lt-ltb, eq-eqb, eqb-true}
+use lib.ListN.{set}
+use borrow.Author.Tests.{lt-ltb, eq-eqb, eqb-true}
 use Rattle.order.specs.TestLaws.{true-or-false, true-not-false}
 use Rattle.squares.specs.declared.shape.Shape.{Shape}
 use Rattle.squares.specs.declared.shape.Rect.{Rect}
 use Rattle.squares.specs.Shape.{Allowed, Fits}
-use Rattle.squares.specs.Cut.{cut}
 use Rattle.position.specs.declared.Position.{Position}
 use Rattle.position.specs.Answer.{onTown}
 use Rattle.tables.specs.Tables.{Tables, shapeOf, zoneRoom, carRoom, entryRoom, rectIn, rectOf, stands, placedIn, placed, spotIn, spotOf}
 use Rattle.tables.specs.Check.{Roomy}
-use Rattle.tables.specs.Derived.{used}
 use Rattle.tables.specs.Sound.{Sound}
 use Rattle.tables.specs.Steps.{withZone, withoutZone, addStep, removeStep, withSpot, reportStep, leaveStep}
 use Rattle.tables.specs.ZoneLaws.{rect-with, rect-with-other, rect-without-other, stands-without}
 use Rattle.tables.specs.StepLaws.{remove-sound}
 use Rattle.tables.specs.AddLaws.{add-sound}
 use Rattle.tables.specs.CarLaws.{spot-with, spot-with-other, placed-with, placed-without, placed-other, report-sound, leave-sound}
-use Rattle.town.specs.Promises.{emptyTown}
+use Rattle.town.specs.Promises.{emptyTown, hasRoom}
 use Rattle.town.specs.OpenLaws.{none-stands, none-placed, empty-sound}
 use Rattle.seasons.specs.Said.{Change, emptied, zoneOn, zoneOff, carAt, carOff, nothing, Opening, openAfter, zoneAfter, carAfter, Records}
 
@@ -85,11 +83,11 @@ next-emptied t s Z C E a m = record {
 abbrev zoneBy : Rect → Option Rect
 zoneBy r = cond (ltb 0 (r .w)) (some r) none
 
-pub next-zone-on : (t : Tables) (sound : Sound t) (z : ℕ) (there : z < zoneRoom t) (down : stands t z ≡ false) (r : Rect) (fit : Fits (shapeOf t) r) (room : length (used t) + length (cut (shapeOf t) r) ≤ entryRoom t) → Next (zoneOn z r) t (addStep t z r)
+pub next-zone-on : (t : Tables) (sound : Sound t) (z : ℕ) (there : z < zoneRoom t) (down : stands t z ≡ false) (r : Rect) (fit : Fits (shapeOf t) r) (room : hasRoom t r ≡ true) → Next (zoneOn z r) t (addStep t z r)
 unfolding zoneIn carIn stands placed
 next-zone-on t sound z there down r fit room = record {
   is = refl;
-  sound = add-sound t sound z there down r fit (le-leb (length (used t) + length (cut (shapeOf t) r)) (entryRoom t) room);
+  sound = add-sound t sound z there down r fit room;
   opening = refl;
   zones = λ y. at-or-not y z _ (some r) _ own (λ f. ap zoneBy (rect-with-other (t .zones) z r y f));
   cars = λ c. refl;

@@ -25,7 +25,6 @@ use Rattle.town.specs.Promises.{Opens, openRefusal, Adds, addRefusal, Removes, 
 use Rattle.seasons.specs.Events.{Call, opening, adding, removing, reporting, leaving, searching, listing, tracing, judging, Event, opened, added, removed, reported, left, searched, listed, traced, judged, callOf, Allows}
 use Rattle.seasons.specs.Said.{change, nothing, Records, tracedAt, refusal, refused, accepted, byRefusal, outcome}
 use Rattle.seasons.specs.ChangeLaws.{carIn, recordsIn}
-use Rattle.seasons.specs.PromiseLaws.{add-taken}
 use Rattle.seasons.specs.TellLaws.{roster-is, found-is, holders-is, entered-is, left-is, looked-is, within-is, open-told, add-told, remove-told, report-told, leave-told, search-told, list-told, trace-told, judge-told}
 
 -- ---- by refusal
@@ -74,7 +73,7 @@ module _ (t t′ : Tables) (sound : Sound t) where
 
   told-added : (z : ℕ) (r : Rect) (answer : Added) → Adds t t′ z r answer → added z r answer ≡ outcome (recordsIn t) (adding z r)
   unfolding accepted
-  told-added z r answer a = tell (recordsIn t) (adding z r) (added z r answer) (addRefusal t z r) (add-told t sound z r) (λ e. rw (a .done e sound .0, within-is t sound z r (add-taken t z r e))) (λ f. rw (a .refused f (λ g. sound) .0))
+  told-added z r answer a = tell (recordsIn t) (adding z r) (added z r answer) (addRefusal t z r) (add-told t sound z r) (λ e. rw (a .done e sound .0, within-is t sound z r e)) (λ f. rw (a .refused f (λ g. sound) .0))
 
   told-removed : (z : ℕ) (answer : Removed) → Removes t t′ z answer → removed z answer ≡ outcome (recordsIn t) (removing z)
   unfolding accepted

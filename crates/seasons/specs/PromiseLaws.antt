@@ -1,52 +1,27 @@
 -- On sound tables every promise makes of them the change that the answer tells.
-use Prim.Native.Nat.{ℕ, _+_, _<_, _≤_}
+use Prim.Native.Nat.{ℕ}
 use mathlib.Core.Path.{_≡_}
-use mathlib.Core.Bool.{false, not}
 use mathlib.Core.List.{List}
 use native.Mathlib.Omega.{arith}
-use lib.Dec.{ltb}
 use lib.ListN.{length}
-use borrow.Author.Tests.{leb-true, ltb-true, not-true}
 use Rattle.squares.specs.declared.shape.Shape.{Shape}
 use Rattle.squares.specs.declared.shape.Rect.{Rect}
-use Rattle.squares.specs.Shape.{Fits, fits}
-use Rattle.squares.specs.ShapeLaws.{fits→}
-use Rattle.squares.specs.Cut.{cut}
-use Rattle.squares.specs.PromiseLaws.{by-refusal, unless→}
+use Rattle.squares.specs.PromiseLaws.{by-refusal}
 use Rattle.position.specs.declared.Position.{Position}
-use Rattle.tables.specs.Tables.{Tables, shapeOf, zoneRoom, entryRoom, stands}
-use Rattle.tables.specs.Check.{sized}
-use Rattle.tables.specs.Derived.{used}
+use Rattle.tables.specs.Tables.{Tables}
 use Rattle.tables.specs.Sound.{Sound}
 use Rattle.town.specs.declared.answers.Opened.{Opened}
 use Rattle.town.specs.declared.answers.Removed.{Removed}
 use Rattle.town.specs.declared.answers.Added.{Added}
 use Rattle.town.specs.declared.answers.Reported.{Reported}
 use Rattle.town.specs.declared.answers.Departed.{Departed}
-use Rattle.town.specs.Promises.{Opens, openRefusal, Adds, addBars, addRefusal, hasRoom, Removes, removeRefusal, Reports, reportRefusal, Leaves, leaveRefusal}
+use Rattle.town.specs.Promises.{Opens, openRefusal, Adds, addRefusal, Removes, removeRefusal, Reports, reportRefusal, Leaves, leaveRefusal}
 use Rattle.town.specs.OpenLaws.{open-taken}
+use Rattle.town.specs.AddLaws.{add-taken, bars-none, add-room}
 use Rattle.town.specs.ReportLaws.{report-taken}
 use Rattle.seasons.specs.Events.{Event, opened, added, removed, reported, left, searched, listed, traced, judged, Allows}
 use Rattle.seasons.specs.Said.{change, emptied}
 use Rattle.seasons.specs.ChangeLaws.{Next, next-nothing, next-emptied, next-zone-on, next-zone-off, next-car-at, next-car-off}
-
--- ---- what no refusal says
-
-pub record Addable (t : Tables) (z : ℕ) (r : Rect) : Type 0 where
-  pub there : z < zoneRoom t
-  pub down : stands t z ≡ false
-  pub fit : Fits (shapeOf t) r
-  pub room : length (used t) + length (cut (shapeOf t) r) ≤ entryRoom t
-
-pub add-taken : (t : Tables) (z : ℕ) (r : Rect) → addRefusal t z r ≡ 0 → Addable t z r
-unfolding addBars
-add-taken t z r e =
-    let a = unless→ (sized t) 2 _ e in
-    let b = unless→ (ltb z (zoneRoom t)) 3 _ (a .1) in
-    let c = unless→ (not (stands t z)) 5 _ (b .1) in
-    let d = unless→ (fits (shapeOf t) r) 8 _ (c .1) in
-    let f = unless→ (hasRoom t r) 11 _ (d .1) in
-    record { there = ltb-true z (zoneRoom t) (b .0); down = not-true (stands t z) (c .0); fit = fits→ (shapeOf t) r (d .0); room = leb-true (length (used t) + length (cut (shapeOf t) r)) (entryRoom t) (f .0) }
 
 -- ---- the calls that change the tables
 
@@ -64,7 +39,7 @@ module _ (t t′ : Tables) (sound : Sound t) where
 
   next-added : (z : ℕ) (r : Rect) (answer : Added) → Adds t t′ z r answer → Next (change (added z r answer)) t t′
   next-added z r answer a = by-refusal (addRefusal t z r)
-      (λ e. let k = add-taken t z r e in rw (a .done e sound .0, a .done e sound .1) (next-zone-on t sound z (k .there) (k .down) r (k .fit) (k .room)))
+      (λ e. let k = add-taken t z r (bars-none t z r e) in rw (a .done e sound .0, a .done e sound .1) (next-zone-on t sound z (k .zone) (k .down) r (k .fit) (add-room t z r e)))
       (λ f. rw (a .refused f (λ g. sound) .0, a .refused f (λ g. sound) .1) (next-nothing t sound))
 
   next-removed : (z : ℕ) (answer : Removed) → Removes t t′ z answer → Next (change (removed z answer)) t t′

@@ -1,21 +1,17 @@
 -- Every promise can be met from sound tables, whatever the call's arguments.
 use Prim.Native.Nat.{ℕ, zero, suc, _+_}
-use mathlib.Core.Path.{_≡_, refl, ap, sym, subst}
-use mathlib.Core.Bool.{Bool, true, false, not}
+use mathlib.Core.Path.{_≡_, refl, ap, sym, subst, _∙_}
 use mathlib.Core.List.{List}
 use native.Mathlib.Omega.{arith}
-use lib.Dec.{ltb}
 use lib.ListN.{length}
 use Rattle.order.specs.Order.{over}
 use Rattle.squares.specs.declared.shape.Shape.{Shape}
 use Rattle.squares.specs.declared.shape.Rect.{Rect}
-use Rattle.squares.specs.Shape.{fits}
 use Rattle.squares.specs.Cut.{cut}
 use Rattle.squares.specs.Promises.{unless}
-use Rattle.squares.specs.PromiseLaws.{by-refusal, not-both}
+use Rattle.squares.specs.PromiseLaws.{by-refusal, not-both, unless-last}
 use Rattle.position.specs.declared.Position.{Position}
-use Rattle.tables.specs.Tables.{Tables, shapeOf, zoneRoom, spotOf, stands}
-use Rattle.tables.specs.Check.{sized}
+use Rattle.tables.specs.Tables.{Tables, shapeOf, spotOf}
 use Rattle.tables.specs.CheckLaws.{→sized}
 use Rattle.tables.specs.Sound.{Sound}
 use Rattle.tables.specs.Steps.{addStep, removeStep, reportStep, leaveStep}
@@ -29,8 +25,9 @@ use Rattle.town.specs.declared.answers.Removed.{Removed}
 use Rattle.town.specs.declared.answers.Added.{Added}
 use Rattle.town.specs.declared.answers.Reported.{Reported}
 use Rattle.town.specs.declared.answers.Departed.{Departed}
-use Rattle.town.specs.Promises.{Opens, openRefusal, emptyTown, Adds, addBars, addRefusal, hasRoom, Removes, removeRefusal, Reports, reportRefusal, entered, left as parted, squaresLooked, Leaves, leaveRefusal, zonesOf, Searches, searchRefusal, found, Lists, listRefusal, roster, Traces, traceRefusal, Judges}
+use Rattle.town.specs.Promises.{Opens, openRefusal, emptyTown, Adds, addRefusal, hasRoom, Removes, removeRefusal, Reports, reportRefusal, entered, left as parted, squaresLooked, Leaves, leaveRefusal, zonesOf, Searches, searchRefusal, found, Lists, listRefusal, roster, Traces, traceRefusal, Judges}
 use Rattle.town.specs.OpenLaws.{opens-refused}
+use Rattle.town.specs.AddLaws.{bars-last}
 use Rattle.town.specs.RemoveLaws.{removes-refused}
 use Rattle.town.specs.ReadLaws.{traces-refused, traces-done, lists-refused}
 use Rattle.town.specs.SearchLaws.{searches-refused}
@@ -43,24 +40,11 @@ use Rattle.seasons.specs.OutcomeLaws.{told}
 
 -- ---- refused
 
--- a call that only the room bars is refused with 12
-add-twelve : (t : Tables) (z : ℕ) (r : Rect) → addBars t z r 0 ≡ 0 → (addRefusal t z r ≡ 0 → ⊥) → addRefusal t z r ≡ 12
-unfolding addBars
-add-twelve t z r = go (sized t) (ltb z (zoneRoom t)) (not (stands t z)) (fits (shapeOf t) r) (hasRoom t r)
-  where
-    go : (a b c d f : Bool) → unless a 3 (unless b 4 (unless c 6 (unless d 9 0))) ≡ 0 → (unless a 3 (unless b 4 (unless c 6 (unless d 9 (unless f 12 0)))) ≡ 0 → ⊥) → unless a 3 (unless b 4 (unless c 6 (unless d 9 (unless f 12 0)))) ≡ 12
-    go true true true true true e h = absurd (h refl)
-    go true true true true false e h = refl
-    go true true true false f e h = absurd (omega arith)
-    go true true false d f e h = absurd (omega arith)
-    go true false c d f e h = absurd (omega arith)
-    go false b c d f e h = absurd (omega arith)
-
 adds-refused : (t : Tables) (z : ℕ) (r : Rect) (n : ℕ) → (n ≡ 0 → ⊥) → n ≡ addRefusal t z r → Adds t t z r (Added.Refused n)
 adds-refused t z r zero f e = absurd (f refl)
 adds-refused t z r (suc n) f e = record {
   refused = λ g h. (ap Added.Refused e, refl);
-  accepted = λ g m q. (let k : suc n ≡ m = cc in let d = add-twelve t z r g (λ (x : addRefusal t z r ≡ 0). not-both _ n (sym e) x) in omega arith, refl);
+  accepted = λ g m q. (let k : suc n ≡ m = cc in let q = bars-last t z r g in let d = unless-last (hasRoom t r) 12 (λ (x : unless (hasRoom t r) 12 0 ≡ 0). not-both _ n (sym e) (q ∙ x)) in omega arith, refl);
   done = λ g h. absurd (not-both _ n (sym e) g);
   says = λ g. rw (← e);
 }

@@ -26,10 +26,10 @@ use Rattle.tables.specs.Steps.{addStep}
 use Rattle.tables.specs.Tests.{zoneStands, cutSize as sizeIn}
 use Rattle.tables.specs.CountLaws.{sum-ext, count-used}
 use Rattle.town.specs.Promises.{openRefusal, traceRefusal, judgeRefusal, searchRefusal, heldBy, found, listRefusal, roster, removeRefusal, addBars, addRefusal, reportRefusal, entered, left as parted, squaresLooked, leaveRefusal, zonesOf as holders}
+use Rattle.town.specs.AddLaws.{add-taken, bars-none, add-room}
 use Rattle.seasons.specs.Events.{opening, adding, removing, reporting, leaving, searching, listing, tracing, judging}
 use Rattle.seasons.specs.Said.{known, lies, inZone, atZone, carsOf, carsWithin, zonesAt, zonesOf, zonesEntered, zonesLeft, looked, cutSize, entriesUsed, alike, refusal}
 use Rattle.seasons.specs.ChangeLaws.{openIn, zoneIn, carIn, recordsIn, next-zone-on}
-use Rattle.seasons.specs.PromiseLaws.{Addable}
 
 -- ---- tests
 
@@ -103,9 +103,10 @@ module _ (t : Tables) where
   used-is sound = count-used t (sound .size) ∙ sum-ext (sizeIn (shapeOf t) (t .zones)) (λ (z : ℕ). cutSize (shapeOf t) (zoneIn t z)) (zoneRoom t) (λ z l. size-is z)
 
 -- the cars of a zone that was added
-pub within-is : (t : Tables) → Sound t → (z : ℕ) (r : Rect) → Addable t z r → roster (addStep t z r) z ≡ carsWithin (recordsIn t) r
-within-is t sound z r k =
-    let n = next-zone-on t sound z (k .there) (k .down) r (k .fit) (k .room) in
+pub within-is : (t : Tables) → Sound t → (z : ℕ) (r : Rect) → addRefusal t z r ≡ 0 → roster (addStep t z r) z ≡ carsWithin (recordsIn t) r
+within-is t sound z r e =
+    let k = add-taken t z r (bars-none t z r e) in
+    let n = next-zone-on t sound z (k .zone) (k .down) r (k .fit) (add-room t z r e) in
     let own : zoneIn (addStep t z r) z ≡ some r = n .zones z ∙ rw (eq-eqb z z refl) in
     keep-ext (rosterHas (addStep t z r) z) (λ (c : ℕ). lies (shapeOf t) (some r) (carIn t c)) (upto (carRoom t)) (λ c m. roster-lies (addStep t z r) z c ∙ ap₂ (lies (shapeOf t)) own (n .cars c))
 

@@ -33,6 +33,16 @@ pub unless→ : (b : Bool) (n rest : ℕ) → unless b (suc n) rest ≡ 0 → (b
 unless→ true n rest e = (refl, e)
 unless→ false n rest e = absurd (omega arith)
 
+-- refused before what comes last, whatever that is
+pub unless-later : (b : Bool) (n x y : ℕ) → (unless b n x ≡ 0 → ⊥) → ((x ≡ 0 → ⊥) → y ≡ x) → unless b n y ≡ unless b n x
+unless-later true n x y f g = g f
+unless-later false n x y f g = refl
+
+-- refused by the one test that there is
+pub unless-last : (b : Bool) (n : ℕ) → (unless b n 0 ≡ 0 → ⊥) → unless b n 0 ≡ n
+unless-last true n f = absurd (f refl)
+unless-last false n f = refl
+
 module _ (s : Shape) (i x y : ℕ) where
   pub numbers-refused : (n : ℕ) → numberRefusal s i x y ≡ suc n → Numbers s i x y (Numbered.Refused (suc n))
   numbers-refused n e = record { refused = λ f. ap Numbered.Refused (sym e); done = λ z. absurd (not-both _ n e z); says = rw e }

@@ -2,7 +2,6 @@
 use crate::fill::fill_bytes;
 ghost use Prim.Native.Nat.{_+_, _*_, _≤_};
 ghost use mathlib.Core.Path.{_≡_};
-ghost use lib.ListN.{set};
 ghost use Rattle.order.specs.Buffer.{Wrote};
 ghost use Rattle.tables.specs.Rows.{row, Adds, RowThere};
 ghost use Rattle.tables.specs.Edits.{rowCleared, stamped};
@@ -46,15 +45,6 @@ pub fn clear_row(rosters: &mut [u8], z: usize, many: u32)
     fill_bytes(&mut rosters[from..end], 0);
 }
 
-// A byte is stored at place n where the bytes have that place.
-fn store_byte(bytes: &mut [u8], n: usize, v: u8)
-    ensures { λ _. ⌜ now (bytes .exit) ≡ set (now (bytes .entry)) n v ⌝ }
-{
-    if n < bytes.len() {
-        bytes[n] = v;
-    }
-}
-
 // Where car c's byte stands in zone z's row, rows of so many bytes.
 fn byte_at(z: u32, many: u32, c: u32) -> usize
     requires { ⌜ many ≤ 1024 ⌝ }
@@ -70,7 +60,7 @@ pub fn stamp_rows(rosters: &mut [u8], zones: &[u32], many: u32, c: u32, v: u8)
 {
     let mut i = 0;
     while i < zones.len() {
-        store_byte(rosters, byte_at(zones[i], many, c), v);
+        order::store_byte(rosters, byte_at(zones[i], many, c), v);
         i += 1;
     }
 }

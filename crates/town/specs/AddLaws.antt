@@ -1,7 +1,7 @@
 -- How add refuses, and how it keeps its promise.
 use Prim.Native.Nat.{ℕ, zero, suc, _+_, _-_, _*_, _<_, _≤_}
 use mathlib.Core.Path.{_≡_, refl, ap, ap₂, sym, _∙_}
-use mathlib.Core.Bool.{Bool, true, false, not}
+use mathlib.Core.Bool.{true, false, not}
 use mathlib.Core.List.{List}
 use native.Mathlib.Omega.{arith}
 use lib.Dec.{ltb}
@@ -14,7 +14,7 @@ use Rattle.squares.specs.Cut.{cut}
 use Rattle.squares.specs.Leaves.{AllRoom}
 use Rattle.squares.specs.ShapeLaws.{fits→}
 use Rattle.squares.specs.Promises.{unless}
-use Rattle.squares.specs.PromiseLaws.{unless→, not-both}
+use Rattle.squares.specs.PromiseLaws.{unless→, not-both, unless-later}
 use Rattle.tables.specs.Tables.{Tables, tables, shapeOf, zoneRoom, carRoom, entryRoom, stands}
 use Rattle.tables.specs.Check.{Sized, sized}
 use Rattle.tables.specs.Derived.{used}
@@ -79,20 +79,20 @@ module _ (t : Tables) (z : ℕ) (r : Rect) where
   -- and what does not is refused by them
   barred : (n : ℕ) → (addBars t z r 0 ≡ 0 → ⊥) → addBars t z r n ≡ addBars t z r 0
   unfolding addBars
-  barred n = go (sized t) (ltb z (zoneRoom t)) (not (stands t z)) (fits (shapeOf t) r)
-    where
-      go : (a b c d : Bool) → (unless a 3 (unless b 4 (unless c 6 (unless d 9 0))) ≡ 0 → ⊥) → unless a 3 (unless b 4 (unless c 6 (unless d 9 n))) ≡ unless a 3 (unless b 4 (unless c 6 (unless d 9 0)))
-      go true true true true f = absurd (f refl)
-      go true true true false f = refl
-      go true true false d f = refl
-      go true false c d f = refl
-      go false b c d f = refl
+  barred n f = unless-later (sized t) 3 _ _ f (λ g. unless-later (ltb z (zoneRoom t)) 4 _ _ g (λ h. unless-later (not (stands t z)) 6 _ _ h (λ k. unless-later (fits (shapeOf t) r) 9 _ _ k (λ l. absurd (l refl)))))
 
   pub add-taken : addBars t z r 0 ≡ 0 → New
   add-taken e = passed 0 e .new
 
   pub bars-none : addRefusal t z r ≡ 0 → addBars t z r 0 ≡ 0
   bars-none e = passed (unless (hasRoom t r) 12 0) e .last 0
+
+  -- what passes the first checks is refused by the room alone
+  pub bars-last : addBars t z r 0 ≡ 0 → addRefusal t z r ≡ unless (hasRoom t r) 12 0
+  bars-last e = passed 0 e .last (unless (hasRoom t r) 12 0)
+
+  pub add-room : addRefusal t z r ≡ 0 → hasRoom t r ≡ true
+  add-room e = unless→ (hasRoom t r) 11 0 (sym (bars-last (bars-none e)) ∙ e) .0
 
   module _ (h : New) where
     pub cut-room : AllRoom (shapeOf t) r

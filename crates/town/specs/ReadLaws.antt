@@ -1,7 +1,7 @@
 -- How where and roster refuse, and how they keep their promises.
 use Prim.Native.Nat.{ℕ, zero, suc, _*_, _<_, _≤_}
 use mathlib.Core.Path.{_≡_, refl, ap, sym, _∙_}
-use mathlib.Core.Bool.{Bool, true, false}
+use mathlib.Core.Bool.{true, false}
 use mathlib.Core.List.{List}
 use native.Mathlib.Nat.{zero-add}
 use native.Mathlib.Omega.{arith}
@@ -13,7 +13,7 @@ use Rattle.order.specs.Buffer.{Wrote}
 use Rattle.order.specs.BufferLaws.{wrote-over}
 use Rattle.order.specs.KeepLaws.{length-keep, length-span}
 use Rattle.squares.specs.Promises.{unless}
-use Rattle.squares.specs.PromiseLaws.{unless→, not-both}
+use Rattle.squares.specs.PromiseLaws.{unless→, unless-later, not-both}
 use Rattle.tables.specs.Tables.{Tables, zoneRoom, carRoom, stands, placed, spotOf, rosterHas}
 use Rattle.tables.specs.Check.{Sized, sized}
 use Rattle.tables.specs.CheckLaws.{sized→}
@@ -64,13 +64,7 @@ module _ (t : Tables) (z room : ℕ) where
   -- as a removal is refused, or then by the room alone
   pub list-zone : (removeRefusal t z ≡ 0 → ⊥) → listRefusal t z room ≡ removeRefusal t z
   unfolding listRefusal removeRefusal
-  list-zone = go (sized t) (ltb z (zoneRoom t)) (stands t z)
-    where
-      go : (a b c : Bool) → (unless a 3 (unless b 4 (unless c 7 0)) ≡ 0 → ⊥) → unless a 3 (unless b 4 (unless c 7 (unless (leb (carRoom t) room) 11 0))) ≡ unless a 3 (unless b 4 (unless c 7 0))
-      go true true true f = absurd (f refl)
-      go true true false f = refl
-      go true false c f = refl
-      go false b c f = refl
+  list-zone f = unless-later (sized t) 3 _ _ f (λ g. unless-later (ltb z (zoneRoom t)) 4 _ _ g (λ h. unless-later (stands t z) 7 _ _ h (λ k. absurd (k refl))))
 
   list-room : removeRefusal t z ≡ 0 → listRefusal t z room ≡ unless (leb (carRoom t) room) 11 0
   unfolding listRefusal removeRefusal

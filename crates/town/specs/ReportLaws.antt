@@ -19,7 +19,7 @@ use Rattle.squares.specs.Squares.{squares, number, differ}
 use Rattle.squares.specs.Leaves.{OnMap}
 use Rattle.squares.specs.DifferLaws.{differ-count}
 use Rattle.squares.specs.Promises.{unless}
-use Rattle.squares.specs.PromiseLaws.{unless→, not-both}
+use Rattle.squares.specs.PromiseLaws.{unless→, unless-later, not-both}
 use Rattle.position.specs.declared.Position.{Position}
 use Rattle.position.specs.declared.Spot.{Spot}
 use Rattle.position.specs.Answer.{onTown, columnOf, rowOf, spotOn}
@@ -209,13 +209,7 @@ module _ (t : Tables) (c room : ℕ) where
   -- as a trace is refused, or then by the room alone
   pub leave-car : (traceRefusal t c ≡ 0 → ⊥) → leaveRefusal t c room ≡ traceRefusal t c
   unfolding leaveRefusal traceRefusal
-  leave-car = go (sized t) (ltb c (carRoom t)) (placed t c)
-    where
-      go : (a b d : Bool) → (unless a 3 (unless b 5 (unless d 8 0)) ≡ 0 → ⊥) → unless a 3 (unless b 5 (unless d 8 (unless (leb (zoneRoom t) room) 11 0))) ≡ unless a 3 (unless b 5 (unless d 8 0))
-      go true true true f = absurd (f refl)
-      go true true false f = refl
-      go true false d f = refl
-      go false b d f = refl
+  leave-car f = unless-later (sized t) 3 _ _ f (λ g. unless-later (ltb c (carRoom t)) 5 _ _ g (λ h. unless-later (placed t c) 8 _ _ h (λ k. absurd (k refl))))
 
   leave-room : traceRefusal t c ≡ 0 → leaveRefusal t c room ≡ unless (leb (zoneRoom t) room) 11 0
   unfolding leaveRefusal traceRefusal

@@ -220,7 +220,7 @@ fn round(engine: &mut impl Engine, work: &Work, best: &mut [Best; 7]) {
 }
 
 struct Engines {
-    library: Library,
+    proved: Library,
     scan: Scan,
     cells: Cells,
     squares: Squares,
@@ -229,7 +229,7 @@ struct Engines {
 impl Engines {
     /// Compares every answer of all engines on the same calls.
     fn compare(&mut self, work: &Work) {
-        let Engines { library, scan, cells, squares } = self;
+        let Engines { proved: library, scan, cells, squares } = self;
         for moves in [&work.far, &work.near] {
             for &(car, at) in work.places.iter().chain(moves) {
                 let answer = library.report(car, at);
@@ -251,7 +251,7 @@ impl Engines {
     }
 
     fn compare_rosters(&mut self, work: &Work) {
-        let Engines { library, scan, cells, squares } = self;
+        let Engines { proved: library, scan, cells, squares } = self;
         for &(zone, _) in &work.zones {
             let answer = library.roster(zone);
             assert_eq!(answer, scan.roster(zone), "library and scan, a roster");
@@ -280,19 +280,19 @@ pub fn measure(plan: Plan, k: u32, seed: u64) -> Measured {
     });
     library.clear();
     let mut engines = Engines {
-        library,
+        proved: library,
         scan: Scan::new(plan.room),
         cells: Cells::new(shape, plan.room),
         squares: Squares::new(shape, plan.room),
     };
-    work.fill(&mut engines.library);
+    work.fill(&mut engines.proved);
     work.fill(&mut engines.scan);
     work.fill(&mut engines.cells);
     work.fill(&mut engines.squares);
     engines.compare(&work);
     let mut best: [[Best; 7]; 4] = Default::default();
     for _ in 0..ROUNDS {
-        round(&mut engines.library, &work, &mut best[0]);
+        round(&mut engines.proved, &work, &mut best[0]);
         round(&mut engines.scan, &work, &mut best[1]);
         round(&mut engines.cells, &work, &mut best[2]);
         round(&mut engines.squares, &work, &mut best[3]);

@@ -5,7 +5,6 @@ use borrow.Author.Needs.{needs}
 use Rattle.tables.proofs.rosters.stamp_rows.Statement.{statement}
 use Rattle.tables.proofs.rosters.stamp_rows.Tie as tie
 use Rattle.tables.proofs.rosters.byte_at.Reads as byte-at-reads
-use Rattle.tables.proofs.rosters.store_byte.Reads as store-byte-reads
 
 abbrev Inv-loop : tie.InvT-loop
 Inv-loop rosters₀ zones many c v i₀ rosters i = Stamping rosters₀ zones many c v rosters i

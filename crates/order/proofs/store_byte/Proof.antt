@@ -1,11 +1,11 @@
 use mathlib.Core.Path.{sym}
 use lib.Seq.{set-out}
 use borrow.Author.Needs.{needs}
-use Rattle.line.proofs.answers.store_byte.Statement.{statement}
-use Rattle.line.proofs.answers.store_byte.Tie as tie
+use Rattle.order.proofs.store_byte.Statement.{statement}
+use Rattle.order.proofs.store_byte.Tie as tie
 
-slice-write-out : tie.Need-slice-write-out
-slice-write-out c = search needs
+slice-write-buffer : tie.Need-slice-write-buffer
+slice-write-buffer c = search needs
 
 same-length : tie.Need-same-length
 same-length c = search needs
@@ -17,4 +17,4 @@ returns-2 : tie.Need-returns-2
 returns-2 c = sym (set-out _ _ _ (c .if1 .left))
 
 pub store-byte-spec : {M : Type 1} → statement M
-store-byte-spec = tie.close (tie.spec slice-write-out same-length returns returns-2)
+store-byte-spec = tie.close (tie.spec slice-write-buffer same-length returns returns-2)
