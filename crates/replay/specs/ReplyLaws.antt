@@ -18,7 +18,7 @@ use Rattle.squares.specs.Squares.{squares}
 use Rattle.squares.specs.ShapeLaws.{→allowed}
 use Rattle.squares.specs.PromiseLaws.{by-refusal, unless→}
 use Rattle.position.specs.declared.Position.{Position}
-use Rattle.tables.specs.Tables.{Tables, tables}
+use Rattle.tables.specs.Tables.{Tables, tables, shapeOf, entryRoom}
 use Rattle.tables.specs.Check.{sized, Roomy, Long}
 use Rattle.tables.specs.CheckLaws.{→roomy, →long}
 use Rattle.tables.specs.Sound.{Sound}
@@ -37,6 +37,8 @@ use Rattle.seasons.specs.PromiseLaws.{next}
 use Rattle.line.specs.declared.records.Record.{Record}
 use Rattle.line.specs.declared.records.Record.the-variants.{Bad, Open, Add, Remove, Report, Leave, Search, Roster}
 use Rattle.line.specs.Text.{Part, number, answer, Answers}
+use Rattle.tables.specs.Derived.{used}
+use Rattle.squares.specs.Cut.{cut}
 use Rattle.replay.specs.Room.{lent, into, Ready}
 use Rattle.replay.specs.Replies.{positionOf, openBars, outcome, spoken, kept, Replies}
 use Rattle.replay.specs.Texts.{openedParts, removedParts, addedParts, addedSquares, addedCars, reportedParts, reportedCame, reportedGone, departedParts, departedGone, searchedParts, searchedCount, listedParts, listedCount}
@@ -114,7 +116,7 @@ module _ {t : Tables} (ready : Ready t) where
         (λ e.
         let s = sound-add z r (bars-none (lent t) z r e) in
         let d = p .done e s .0 in
-        (omega (arith, ap addedSquares d, leb-true _ _ (add-room (lent t) z r e), entries-2048 ready s), few-kept _ _ _ _ (ap addedCars d) (cars-64 ready s)))
+        (omega (arith, ap addedSquares d, leb-true (length (used (lent t)) + length (cut (shapeOf t) r)) (entryRoom t) (add-room (lent t) z r e), entries-2048 ready s), few-kept _ _ _ _ (ap addedCars d) (cars-64 ready s)))
         (λ f. let d = p .refused f (sound-add z r) .0 in (omega (arith, ap addedSquares d), omega (arith, ap addedCars d)))
 
     pub add-replies : {b b′ : List ℕ} {n : ℕ} → Answers b b′ n (answer 65 (addedParts a)) → Replies t (into t u) (Add z (r .a) (r .b) (r .w) (r .h)) b b′ n
