@@ -30,9 +30,9 @@ use Rattle.tables.specs.Check.{Roomy, roomy, Long}
 use Rattle.tables.specs.CheckLaws.{roomy→}
 use Rattle.tables.specs.Sound.{Sound}
 use Rattle.tables.specs.Steps.{addStep}
-use Rattle.town.specs.declared.answers.Judged.{Judged}
-use Rattle.town.specs.AddLaws.{bars-none}
-use Rattle.town.specs.Promises.{Searches, searchedSays, searchRefusal, found, Lists, listedSays, listRefusal, roster, Adds, addedSays, addBars, addRefusal, Reports, reportedSays, reportRefusal, squaresLooked, entered, left, Leaves, departedSays, leaveRefusal, zonesOf, judgedSays}
+use Rattle.promises.specs.declared.answers.Judged.{Judged}
+use Rattle.zoning.specs.AddLaws.{bars-none}
+use Rattle.promises.specs.Promises.{Searches, searchedSays, searchRefusal, found, Lists, listedSays, listRefusal, roster, Adds, addedSays, addBars, addRefusal, Reports, reportedSays, reportRefusal, squaresLooked, entered, left, Leaves, departedSays, leaveRefusal, zonesOf, judgedSays}
 use Rattle.boundary.specs.Promises.{capped, Tells, Told, lengths, lengthsRefusal, lengthsSaid}
 use Rattle.boundary.specs.TellLaws.{capped-small}
 

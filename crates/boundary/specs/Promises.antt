@@ -15,8 +15,8 @@ use Rattle.squares.specs.Promises.{unless, told}
 use Rattle.position.specs.declared.Position.{Position}
 use Rattle.tables.specs.Tables.{Tables}
 use Rattle.tables.specs.Check.{roomy}
-use Rattle.town.specs.declared.answers.Traced.{Traced}
-use Rattle.town.specs.Promises.{Traces, tracedSays}
+use Rattle.promises.specs.declared.answers.Traced.{Traced}
+use Rattle.promises.specs.Promises.{Traces, tracedSays}
 
 -- ---- arguments put together
 

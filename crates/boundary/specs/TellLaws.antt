@@ -12,7 +12,7 @@ use Rattle.squares.specs.Shape.{allowed}
 use Rattle.squares.specs.Squares.{squares}
 use Rattle.tables.specs.Check.{roomy}
 use Rattle.position.specs.declared.Position.{Position}
-use Rattle.town.specs.declared.answers.Traced.{Traced}
+use Rattle.promises.specs.declared.answers.Traced.{Traced}
 use Rattle.boundary.specs.Promises.{capped, Tells, Told, zero32, Points, lengths, lengthsRefusal, lengthsSaid}
 
 -- ---- values of 32 bits

@@ -17,7 +17,7 @@ use town::Searched;
 use town::Traced;
 ghost use mathlib.Core.List.{[]};
 ghost use Rattle.squares.specs.Promises.{numberedSays, locatedSays, cutSays};
-ghost use Rattle.town.specs.Promises.{openedSays, removedSays, addedSays, reportedSays, departedSays, searchedSays, listedSays, judgedSays};
+ghost use Rattle.promises.specs.Promises.{openedSays, removedSays, addedSays, reportedSays, departedSays, searchedSays, listedSays, judgedSays};
 ghost use Rattle.boundary.specs.Promises.{Tells, Points};
 
 pub fn tell_numbered(a: Numbered, values: &mut [u32]) -> u32

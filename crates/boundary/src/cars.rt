@@ -4,7 +4,7 @@ use crate::answers::tell_reported;
 use crate::answers::tell_traced;
 use position::Position;
 ghost use Rattle.tables.specs.Tables.{tables};
-ghost use Rattle.town.specs.Promises.{Reports, reportedSays, Leaves, departedSays};
+ghost use Rattle.promises.specs.Promises.{Reports, reportedSays, Leaves, departedSays};
 ghost use Rattle.boundary.specs.Promises.{point, Told, Pointed};
 
 // Three values: the squares looked into, the zones entered, the zones left.

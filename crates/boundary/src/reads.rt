@@ -4,7 +4,7 @@ use crate::answers::tell_listed;
 use crate::answers::tell_searched;
 use position::Position;
 ghost use Rattle.tables.specs.Tables.{tables};
-ghost use Rattle.town.specs.Promises.{Searches, searchedSays, Lists, listedSays, Judges, judgedSays};
+ghost use Rattle.promises.specs.Promises.{Searches, searchedSays, Lists, listedSays, Judges, judgedSays};
 ghost use Rattle.boundary.specs.Promises.{point, Told};
 
 // Two values: the squares looked into, the zones found.

@@ -6,7 +6,7 @@ use squares::Rect;
 use squares::Shape;
 ghost use mathlib.Core.List.{[]};
 ghost use Rattle.tables.specs.Tables.{tables};
-ghost use Rattle.town.specs.Promises.{Opens, openedSays, Adds, addedSays, Removes, removedSays};
+ghost use Rattle.promises.specs.Promises.{Opens, openedSays, Adds, addedSays, Removes, removedSays};
 ghost use Rattle.boundary.specs.Promises.{shape, rect, Told};
 
 // An empty town.

@@ -61,11 +61,6 @@ wrote-over {b} {c} {l} w h = w .stored ∙ sets-over b l h
 pub count-front : (n : ℕ) (b : List ℕ) → n ≤ length b → n ≡ length (take n b)
 count-front n b h = sym (length-take-le n b h)
 
--- a part of no elements lent and given back
-pub nothing-written : (l b : List ℕ) → length l ≡ 0 → l ++ b ≡ b
-nothing-written [] b e = refl
-nothing-written (x ∷ l) b e = absurd (omega arith)
-
 -- ---- rank
 
 pub rank-stop : (x : ℕ) (l : List ℕ) (i : ℕ) → i < length l → x ≤ getD l i 0 → rank x (drop i l) ≡ 0

@@ -1,21 +1,17 @@
--- The floor of n / 2 ^ 149 by shifts of the digits, by the exponent field e. Assumes nothing.
-use Prim.Native.Nat.{ℕ, _+_, _-_, _*_, _/_, _%_, _^_, _≤_, _<_}
+-- The floor of n / 2 ^ 149 by a shift of the digits, by the exponent field e. Assumes nothing.
+use Prim.Native.Nat.{ℕ, _+_, _-_, _*_, _/_, _^_, _≤_, _<_}
 use mathlib.Core.Path.{_≡_, sym, ap, _∙_}
 use mathlib.Core.Logic.{⊎-elim}
-use native.Mathlib.Nat.{eq-zero-or-pos, mod-lt, mul-assoc, mul-le-mul, div-eq-of-lt, lt-of-lt-of-le, le-trans, le-refl, le-of-lt}
+use native.Mathlib.Nat.{eq-zero-or-pos, mod-lt, mul-le-mul, div-eq-of-lt, lt-of-lt-of-le, le-trans, le-refl}
 use native.Mathlib.Omega.{arith}
-use lib.Pow.{pow-pos, pow-mono, pow-add, shl-lt, shl-shr, shr-shr, shl-exact}
+use lib.Pow.{pow-pos, pow-mono, shl-lt, shl-shr, shr-shr}
 use lib.Dec.{lit≤}
 use Rattle.position.specs.Cell.{exponent, fraction, whole}
 use Rattle.position.specs.Exact.{whole-zero, whole-some}
 
--- ---- a shift up and a longer one down, and a shift up and a shorter one down
-
+-- a shift up and a longer one down
 down-more : (d i j : ℕ) → d * 2 ^ i / 2 ^ (i + j) ≡ d / 2 ^ j
 down-more d i j = sym (shr-shr (d * 2 ^ i) i j) ∙ ap (λ (x : ℕ). x / 2 ^ j) (shl-shr d i)
-
-down-less : (d i j : ℕ) → d * 2 ^ (i + j) / 2 ^ j ≡ d * 2 ^ i
-down-less d i j = rw (pow-add 2 i j, ← mul-assoc d (2 ^ i) (2 ^ j)) (shl-shr (d * 2 ^ i) j)
 
 -- ---- the digits: the fraction field below its leading 1
 
@@ -40,24 +36,17 @@ module _ (bits e : ℕ) (field : e ≡ exponent bits) where
   pub floor-small : e < 127 → 0 ≡ whole bits / 2 ^ 149
   floor-small h = sym (div-eq-of-lt (small h))
 
-  -- ---- from 1 to 2 ^ 32
+  -- ---- from 1 to 256
 
   pub floor-down : 127 ≤ e → e < 150 → digits bits / 2 ^ (150 - e) ≡ whole bits / 2 ^ 149
   floor-down a b =
       let k : 149 ≡ e - 1 + (150 - e) = omega arith in
       sym (ap (λ (n : ℕ). n / 2 ^ 149) (normal (omega arith)) ∙ ap (λ (i : ℕ). digits bits * 2 ^ (e - 1) / 2 ^ i) k ∙ down-more (digits bits) (e - 1) (150 - e))
 
-  pub floor-up : 150 ≤ e → e < 159 → digits bits * 2 ^ (e - 150) % 2 ^ 32 ≡ whole bits / 2 ^ 149
-  floor-up a b =
-      let k : e - 1 ≡ e - 150 + 149 = omega arith in
-      let l : 24 + (e - 150) ≤ 32 = omega arith in
-      shl-exact 24 (e - 150) 32 (digits-lt bits) l
-      ∙ sym (ap (λ (n : ℕ). n / 2 ^ 149) (normal (omega arith)) ∙ ap (λ (i : ℕ). digits bits * 2 ^ i / 2 ^ 149) k ∙ down-less (digits bits) (e - 150) 149)
+  -- ---- from 256 on: past every side
 
-  -- ---- from 2 ^ 32 on: past every side
-
-  pub past : (side : ℕ) → 159 ≤ e → side < 2 ^ 32 → side * 2 ^ 149 ≤ whole bits
+  pub past : (side : ℕ) → 135 ≤ e → side ≤ 256 → side * 2 ^ 149 ≤ whole bits
   past side a b =
-      let l : 158 ≤ e - 1 = omega arith in
+      let l : 134 ≤ e - 1 = omega arith in
       let h : 2 ^ 23 ≤ digits bits = omega arith in
-      rw (normal (omega arith)) (le-trans (mul-le-mul (le-of-lt b) (le-refl (2 ^ 149))) (mul-le-mul h (pow-mono l)))
+      rw (normal (omega arith)) (le-trans (mul-le-mul b (le-refl (2 ^ 149))) (mul-le-mul h (pow-mono l)))

@@ -3,9 +3,9 @@
 use squares::Shape;
 ghost use mathlib.Core.Path.{_≡_};
 ghost use mathlib.Core.Bool.{cond};
-ghost use Prim.Native.Nat.{_/_, _^_, _<_};
+ghost use Prim.Native.Nat.{_*_, _/_, _^_, _<_, _≤_};
 ghost use lib.Ieee.{binary32, ofBits};
-ghost use Rattle.position.specs.Cell.{exponent, whole, inRange};
+ghost use Rattle.position.specs.Cell.{whole, inRange};
 ghost use Rattle.position.specs.Answer.{coordinateOn, spotOn};
 
 // Two coordinates kept together: x counts from the west wall, y from the south wall.
@@ -52,8 +52,9 @@ pub fn float_of(bits: u32) -> f32
     f32::from_bits(bits)
 }
 
-// The cell of any float, on any side. A NaN has no bits to ask for.
+// The cell of any float, on a side no longer than a town's. A NaN has no bits to ask for.
 pub fn cell_of(x: f32, side: u32) -> Coordinate
+    requires { ⌜ side ≤ 256 ⌝ }
     ensures { λ r. ⌜ r ≡ coordinateOn side x ⌝ }
 {
     if x != x {
@@ -64,14 +65,11 @@ pub fn cell_of(x: f32, side: u32) -> Coordinate
 
 // The cell of the number with these bits.
 fn cell_of_bits(bits: u32, side: u32) -> Coordinate
+    requires { ⌜ side ≤ 256 ⌝ }
     ensures { λ r. ⌜ r ≡ cond (inRange side bits) (Coordinate.Cell (whole bits / 2 ^ 149)) Coordinate.Off ⌝ }
 {
-    // the sign bit
-    if 0x8000_0000 <= bits {
-        return Coordinate::Off;
-    }
-    // at least 2^32, or an infinity
-    if 159 <= exponent_of(bits) {
+    // at least 256, an infinity, or the sign bit set
+    if 0x4380_0000 <= bits {
         return Coordinate::Off;
     }
     let cell = floor(bits);
@@ -82,26 +80,16 @@ fn cell_of_bits(bits: u32, side: u32) -> Coordinate
     }
 }
 
-// The greatest whole number not above the value of these bits, sign bit apart. From exponent 127 on,
-// which is 1, the value is digits * 2^(e - 150).
+// The greatest whole number not above the value of these bits, which is below 256: the exponent is
+// below 135. From exponent 127 on, which is 1, the value is digits * 2^(e - 150).
 fn floor(bits: u32) -> u32
-    requires { ⌜ exponent bits < 159 ⌝ }
+    requires { ⌜ bits < 135 * 2 ^ 23 ⌝ }
     ensures { λ r. ⌜ r ≡ whole bits / 2 ^ 149 ⌝ }
 {
-    let e = exponent_of(bits);
+    let e = bits >> 23;
     if e < 127 {
         return 0;
     }
     let digits = 0x80_0000 + bits % 0x80_0000;
-    if e < 150 {
-        digits >> (150 - e)
-    } else {
-        digits << (e - 150)
-    }
-}
-
-fn exponent_of(bits: u32) -> u32
-    ensures { λ r. ⌜ r ≡ exponent bits ⌝ }
-{
-    (bits >> 23) % 256
+    digits >> (150 - e)
 }

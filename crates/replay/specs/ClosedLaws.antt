@@ -6,7 +6,7 @@ use native.Mathlib.Omega.{arith}
 use Rattle.squares.specs.Shape.{allowed}
 use Rattle.tables.specs.Tables.{Tables, shapeOf}
 use Rattle.tables.specs.CheckLaws.{sized-shape}
-use Rattle.town.specs.Promises.{addBars, removeRefusal, reportRefusal, leaveRefusal, searchRefusal, listRefusal}
+use Rattle.promises.specs.Promises.{addBars, removeRefusal, reportRefusal, leaveRefusal, searchRefusal, listRefusal}
 use Rattle.line.specs.declared.records.Record.{Record}
 use Rattle.line.specs.declared.records.Record.the-variants.{Bad, Open, Add, Remove, Report, Leave, Search, Roster}
 use Rattle.replay.specs.Room.{lent}

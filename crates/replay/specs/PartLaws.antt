@@ -12,14 +12,14 @@ use Rattle.squares.specs.Shape.{Allowed, width, height}
 use Rattle.squares.specs.Squares.{squares}
 use Rattle.position.specs.declared.Position.{Position}
 use Rattle.tables.specs.Tables.{Tables, tables}
-use Rattle.town.specs.declared.answers.Opened.{Opened}
-use Rattle.town.specs.declared.answers.Searched.{Searched}
-use Rattle.town.specs.declared.answers.Listed.{Listed}
-use Rattle.town.specs.declared.answers.Removed.{Removed}
-use Rattle.town.specs.declared.answers.Added.{Added}
-use Rattle.town.specs.declared.answers.Reported.{Reported}
-use Rattle.town.specs.declared.answers.Departed.{Departed}
-use Rattle.town.specs.Promises.{Opens, Adds, Removes, Reports, Leaves, Searches, Lists}
+use Rattle.promises.specs.declared.answers.Opened.{Opened}
+use Rattle.promises.specs.declared.answers.Searched.{Searched}
+use Rattle.promises.specs.declared.answers.Listed.{Listed}
+use Rattle.promises.specs.declared.answers.Removed.{Removed}
+use Rattle.promises.specs.declared.answers.Added.{Added}
+use Rattle.promises.specs.declared.answers.Reported.{Reported}
+use Rattle.promises.specs.declared.answers.Departed.{Departed}
+use Rattle.promises.specs.Promises.{Opens, Adds, Removes, Reports, Leaves, Searches, Lists}
 use Rattle.line.specs.declared.records.Record.{Record}
 use Rattle.line.specs.declared.records.Record.the-variants.{Open, Add, Remove, Report, Leave, Search, Roster}
 use Rattle.line.specs.Text.{Part, answer, Answers}

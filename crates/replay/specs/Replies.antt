@@ -13,7 +13,7 @@ use Rattle.squares.specs.Promises.{unless}
 use Rattle.position.specs.declared.Position.{Position}
 use Rattle.tables.specs.Tables.{Tables, shapeOf}
 use Rattle.tables.specs.Steps.{addStep, removeStep, reportStep, leaveStep}
-use Rattle.town.specs.Promises.{emptyTown, addRefusal, removeRefusal, reportRefusal, leaveRefusal, searchRefusal, listRefusal, roster, found, entered, left, squaresLooked, zonesOf}
+use Rattle.promises.specs.Promises.{emptyTown, addRefusal, removeRefusal, reportRefusal, leaveRefusal, searchRefusal, listRefusal, roster, found, entered, left, squaresLooked, zonesOf}
 use Rattle.line.specs.declared.records.Record.{Record}
 use Rattle.line.specs.declared.records.Record.the-variants.{Bad, Open, Add, Remove, Report, Leave, Search, Roster}
 use Rattle.line.specs.Text.{Part, number, members, answer, Answers}

@@ -22,16 +22,16 @@ use Rattle.tables.specs.Tables.{Tables, tables, shapeOf, entryRoom}
 use Rattle.tables.specs.Check.{sized, Roomy, Long}
 use Rattle.tables.specs.CheckLaws.{→roomy, →long}
 use Rattle.tables.specs.Sound.{Sound}
-use Rattle.town.specs.declared.answers.Opened.{Opened}
-use Rattle.town.specs.declared.answers.Searched.{Searched}
-use Rattle.town.specs.declared.answers.Listed.{Listed}
-use Rattle.town.specs.declared.answers.Removed.{Removed}
-use Rattle.town.specs.declared.answers.Added.{Added}
-use Rattle.town.specs.declared.answers.Reported.{Reported}
-use Rattle.town.specs.declared.answers.Departed.{Departed}
-use Rattle.town.specs.Promises.{Opens, openRefusal, emptyTown, Adds, addBars, addRefusal, Removes, removeRefusal, Reports, reportRefusal, Leaves, leaveRefusal, Searches, searchRefusal, Lists, listRefusal}
-use Rattle.town.specs.AddLaws.{bars-none, add-room}
-use Rattle.town.specs.OpenLaws.{empty-sound, open-0}
+use Rattle.promises.specs.declared.answers.Opened.{Opened}
+use Rattle.promises.specs.declared.answers.Searched.{Searched}
+use Rattle.promises.specs.declared.answers.Listed.{Listed}
+use Rattle.promises.specs.declared.answers.Removed.{Removed}
+use Rattle.promises.specs.declared.answers.Added.{Added}
+use Rattle.promises.specs.declared.answers.Reported.{Reported}
+use Rattle.promises.specs.declared.answers.Departed.{Departed}
+use Rattle.promises.specs.Promises.{Opens, openRefusal, emptyTown, Adds, addBars, addRefusal, Removes, removeRefusal, Reports, reportRefusal, Leaves, leaveRefusal, Searches, searchRefusal, Lists, listRefusal}
+use Rattle.zoning.specs.AddLaws.{bars-none, add-room}
+use Rattle.zoning.specs.OpenLaws.{empty-sound, open-0}
 use Rattle.seasons.specs.Events.{added, removed, reported, left as departed}
 use Rattle.seasons.specs.PromiseLaws.{next}
 use Rattle.line.specs.declared.records.Record.{Record}

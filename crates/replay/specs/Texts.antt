@@ -2,13 +2,13 @@
 use Prim.Native.Nat.{ℕ}
 use mathlib.Core.List.{List, [], _∷_}
 use lib.ListN.{take}
-use Rattle.town.specs.declared.answers.Opened.{Opened}
-use Rattle.town.specs.declared.answers.Searched.{Searched}
-use Rattle.town.specs.declared.answers.Listed.{Listed}
-use Rattle.town.specs.declared.answers.Removed.{Removed}
-use Rattle.town.specs.declared.answers.Added.{Added}
-use Rattle.town.specs.declared.answers.Reported.{Reported}
-use Rattle.town.specs.declared.answers.Departed.{Departed}
+use Rattle.promises.specs.declared.answers.Opened.{Opened}
+use Rattle.promises.specs.declared.answers.Searched.{Searched}
+use Rattle.promises.specs.declared.answers.Listed.{Listed}
+use Rattle.promises.specs.declared.answers.Removed.{Removed}
+use Rattle.promises.specs.declared.answers.Added.{Added}
+use Rattle.promises.specs.declared.answers.Reported.{Reported}
+use Rattle.promises.specs.declared.answers.Departed.{Departed}
 use Rattle.line.specs.Text.{Part, number, members}
 
 abbrev pub openedParts : Opened → List Part

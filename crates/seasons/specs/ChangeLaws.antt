@@ -18,12 +18,12 @@ use Rattle.tables.specs.Tables.{Tables, shapeOf, zoneRoom, carRoom, entryRoom, 
 use Rattle.tables.specs.Check.{Roomy}
 use Rattle.tables.specs.Sound.{Sound}
 use Rattle.tables.specs.Steps.{withZone, withoutZone, addStep, removeStep, withSpot, reportStep, leaveStep}
-use Rattle.tables.specs.ZoneLaws.{rect-with, rect-with-other, rect-without-other, stands-without}
-use Rattle.tables.specs.StepLaws.{remove-sound}
-use Rattle.tables.specs.AddLaws.{add-sound}
-use Rattle.tables.specs.CarLaws.{spot-with, spot-with-other, placed-with, placed-without, placed-other, report-sound, leave-sound}
-use Rattle.town.specs.Promises.{emptyTown, hasRoom}
-use Rattle.town.specs.OpenLaws.{none-stands, none-placed, empty-sound}
+use Rattle.edits.specs.ZoneLaws.{rect-with, rect-with-other, rect-without-other, stands-without}
+use Rattle.edits.specs.StepLaws.{remove-sound}
+use Rattle.edits.specs.AddLaws.{add-sound}
+use Rattle.edits.specs.CarLaws.{spot-with, spot-with-other, placed-with, placed-without, placed-other, report-sound, leave-sound}
+use Rattle.promises.specs.Promises.{emptyTown, hasRoom}
+use Rattle.zoning.specs.OpenLaws.{none-stands, none-placed, empty-sound}
 use Rattle.seasons.specs.Said.{Change, emptied, zoneOn, zoneOff, carAt, carOff, nothing, Opening, openAfter, zoneAfter, carAfter, Records}
 
 -- ---- the records, as a history has them

@@ -6,16 +6,16 @@ use Rattle.squares.specs.declared.shape.Shape.{Shape}
 use Rattle.squares.specs.declared.shape.Rect.{Rect}
 use Rattle.position.specs.declared.Position.{Position}
 use Rattle.tables.specs.Tables.{Tables}
-use Rattle.town.specs.declared.answers.Opened.{Opened}
-use Rattle.town.specs.declared.answers.Traced.{Traced}
-use Rattle.town.specs.declared.answers.Judged.{Judged}
-use Rattle.town.specs.declared.answers.Searched.{Searched}
-use Rattle.town.specs.declared.answers.Listed.{Listed}
-use Rattle.town.specs.declared.answers.Removed.{Removed}
-use Rattle.town.specs.declared.answers.Added.{Added}
-use Rattle.town.specs.declared.answers.Reported.{Reported}
-use Rattle.town.specs.declared.answers.Departed.{Departed}
-use Rattle.town.specs.Promises.{Opens, Adds, Removes, Reports, Leaves, Searches, Lists, Traces, Judges}
+use Rattle.promises.specs.declared.answers.Opened.{Opened}
+use Rattle.promises.specs.declared.answers.Traced.{Traced}
+use Rattle.promises.specs.declared.answers.Judged.{Judged}
+use Rattle.promises.specs.declared.answers.Searched.{Searched}
+use Rattle.promises.specs.declared.answers.Listed.{Listed}
+use Rattle.promises.specs.declared.answers.Removed.{Removed}
+use Rattle.promises.specs.declared.answers.Added.{Added}
+use Rattle.promises.specs.declared.answers.Reported.{Reported}
+use Rattle.promises.specs.declared.answers.Departed.{Departed}
+use Rattle.promises.specs.Promises.{Opens, Adds, Removes, Reports, Leaves, Searches, Lists, Traces, Judges}
 
 -- a call with its arguments and its buffers at entry
 pub data Call : Type 0 where

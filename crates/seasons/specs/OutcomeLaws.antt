@@ -12,16 +12,16 @@ use Rattle.position.specs.declared.Position.{Position}
 use Rattle.tables.specs.Tables.{Tables, carRoom, placed, spotOf}
 use Rattle.tables.specs.Check.{sized}
 use Rattle.tables.specs.Sound.{Sound}
-use Rattle.town.specs.declared.answers.Opened.{Opened}
-use Rattle.town.specs.declared.answers.Traced.{Traced}
-use Rattle.town.specs.declared.answers.Judged.{Judged}
-use Rattle.town.specs.declared.answers.Searched.{Searched}
-use Rattle.town.specs.declared.answers.Listed.{Listed}
-use Rattle.town.specs.declared.answers.Removed.{Removed}
-use Rattle.town.specs.declared.answers.Added.{Added}
-use Rattle.town.specs.declared.answers.Reported.{Reported}
-use Rattle.town.specs.declared.answers.Departed.{Departed}
-use Rattle.town.specs.Promises.{Opens, openRefusal, Adds, addRefusal, Removes, removeRefusal, Reports, reportRefusal, Leaves, leaveRefusal, Searches, searchRefusal, Lists, listRefusal, Traces, traceRefusal, Judges, judgeRefusal}
+use Rattle.promises.specs.declared.answers.Opened.{Opened}
+use Rattle.promises.specs.declared.answers.Traced.{Traced}
+use Rattle.promises.specs.declared.answers.Judged.{Judged}
+use Rattle.promises.specs.declared.answers.Searched.{Searched}
+use Rattle.promises.specs.declared.answers.Listed.{Listed}
+use Rattle.promises.specs.declared.answers.Removed.{Removed}
+use Rattle.promises.specs.declared.answers.Added.{Added}
+use Rattle.promises.specs.declared.answers.Reported.{Reported}
+use Rattle.promises.specs.declared.answers.Departed.{Departed}
+use Rattle.promises.specs.Promises.{Opens, openRefusal, Adds, addRefusal, Removes, removeRefusal, Reports, reportRefusal, Leaves, leaveRefusal, Searches, searchRefusal, Lists, listRefusal, Traces, traceRefusal, Judges, judgeRefusal}
 use Rattle.seasons.specs.Events.{Call, opening, adding, removing, reporting, leaving, searching, listing, tracing, judging, Event, opened, added, removed, reported, left, searched, listed, traced, judged, callOf, Allows}
 use Rattle.seasons.specs.Said.{change, nothing, Records, tracedAt, refusal, refused, accepted, byRefusal, outcome}
 use Rattle.seasons.specs.ChangeLaws.{carIn, recordsIn}

@@ -10,15 +10,15 @@ use Rattle.squares.specs.PromiseLaws.{by-refusal}
 use Rattle.position.specs.declared.Position.{Position}
 use Rattle.tables.specs.Tables.{Tables}
 use Rattle.tables.specs.Sound.{Sound}
-use Rattle.town.specs.declared.answers.Opened.{Opened}
-use Rattle.town.specs.declared.answers.Removed.{Removed}
-use Rattle.town.specs.declared.answers.Added.{Added}
-use Rattle.town.specs.declared.answers.Reported.{Reported}
-use Rattle.town.specs.declared.answers.Departed.{Departed}
-use Rattle.town.specs.Promises.{Opens, openRefusal, Adds, addRefusal, Removes, removeRefusal, Reports, reportRefusal, Leaves, leaveRefusal}
-use Rattle.town.specs.OpenLaws.{open-taken}
-use Rattle.town.specs.AddLaws.{add-taken, bars-none, add-room}
-use Rattle.town.specs.ReportLaws.{report-taken}
+use Rattle.promises.specs.declared.answers.Opened.{Opened}
+use Rattle.promises.specs.declared.answers.Removed.{Removed}
+use Rattle.promises.specs.declared.answers.Added.{Added}
+use Rattle.promises.specs.declared.answers.Reported.{Reported}
+use Rattle.promises.specs.declared.answers.Departed.{Departed}
+use Rattle.promises.specs.Promises.{Opens, openRefusal, Adds, addRefusal, Removes, removeRefusal, Reports, reportRefusal, Leaves, leaveRefusal}
+use Rattle.zoning.specs.OpenLaws.{open-taken}
+use Rattle.zoning.specs.AddLaws.{add-taken, bars-none, add-room}
+use Rattle.driving.specs.ReportLaws.{report-taken}
 use Rattle.seasons.specs.Events.{Event, opened, added, removed, reported, left, searched, listed, traced, judged, Allows}
 use Rattle.seasons.specs.Said.{change, emptied}
 use Rattle.seasons.specs.ChangeLaws.{Next, next-nothing, next-emptied, next-zone-on, next-zone-off, next-car-at, next-car-off}

@@ -7,6 +7,7 @@ use mathlib.Core.Option.{Option, none, some}
 use lib.Dec.{leb, ltb, eqb}
 use lib.ListN.{length}
 use Rattle.order.specs.Order.{upto, keep, over}
+use Rattle.order.specs.Sums.{sum}
 use Rattle.squares.specs.declared.shape.Shape.{Shape}
 use Rattle.squares.specs.declared.shape.Rect.{Rect}
 use Rattle.squares.specs.Shape.{allowed, fits}
@@ -16,16 +17,15 @@ use Rattle.squares.specs.Promises.{unless}
 use Rattle.position.specs.declared.Position.{Position}
 use Rattle.position.specs.Answer.{onTown, columnOf, rowOf}
 use Rattle.tables.specs.Check.{roomy}
-use Rattle.tables.specs.Tests.{sum}
-use Rattle.town.specs.declared.answers.Opened.{Opened}
-use Rattle.town.specs.declared.answers.Traced.{Traced}
-use Rattle.town.specs.declared.answers.Judged.{Judged}
-use Rattle.town.specs.declared.answers.Searched.{Searched}
-use Rattle.town.specs.declared.answers.Listed.{Listed}
-use Rattle.town.specs.declared.answers.Removed.{Removed}
-use Rattle.town.specs.declared.answers.Added.{Added}
-use Rattle.town.specs.declared.answers.Reported.{Reported}
-use Rattle.town.specs.declared.answers.Departed.{Departed}
+use Rattle.promises.specs.declared.answers.Opened.{Opened}
+use Rattle.promises.specs.declared.answers.Traced.{Traced}
+use Rattle.promises.specs.declared.answers.Judged.{Judged}
+use Rattle.promises.specs.declared.answers.Searched.{Searched}
+use Rattle.promises.specs.declared.answers.Listed.{Listed}
+use Rattle.promises.specs.declared.answers.Removed.{Removed}
+use Rattle.promises.specs.declared.answers.Added.{Added}
+use Rattle.promises.specs.declared.answers.Reported.{Reported}
+use Rattle.promises.specs.declared.answers.Departed.{Departed}
 use Rattle.seasons.specs.Events.{Call, opening, adding, removing, reporting, leaving, searching, listing, tracing, judging, Event, opened, added, removed, reported, left, searched, listed, traced, judged}
 
 -- ---- what stands

@@ -18,15 +18,15 @@ use Rattle.position.specs.declared.Position.{Position}
 use Rattle.tables.specs.Tables.{Tables, zoneRoom, carRoom, stands, placed}
 use Rattle.tables.specs.Sound.{Sound}
 use Rattle.tables.specs.RunLaws.{stands-below}
-use Rattle.town.specs.declared.answers.Opened.{Opened}
-use Rattle.town.specs.declared.answers.Traced.{Traced}
-use Rattle.town.specs.declared.answers.Judged.{Judged}
-use Rattle.town.specs.declared.answers.Searched.{Searched}
-use Rattle.town.specs.declared.answers.Listed.{Listed}
-use Rattle.town.specs.declared.answers.Added.{Added}
-use Rattle.town.specs.declared.answers.Reported.{Reported}
-use Rattle.town.specs.declared.answers.Departed.{Departed}
-use Rattle.town.specs.Promises.{openRefusal, emptyTown, Adds, Reports, Leaves, Searches, Lists, Traces, Judges}
+use Rattle.promises.specs.declared.answers.Opened.{Opened}
+use Rattle.promises.specs.declared.answers.Traced.{Traced}
+use Rattle.promises.specs.declared.answers.Judged.{Judged}
+use Rattle.promises.specs.declared.answers.Searched.{Searched}
+use Rattle.promises.specs.declared.answers.Listed.{Listed}
+use Rattle.promises.specs.declared.answers.Added.{Added}
+use Rattle.promises.specs.declared.answers.Reported.{Reported}
+use Rattle.promises.specs.declared.answers.Departed.{Departed}
+use Rattle.promises.specs.Promises.{openRefusal, emptyTown, Adds, Reports, Leaves, Searches, Lists, Traces, Judges}
 use Rattle.seasons.specs.Events.{Call, adding, reporting, leaving, searching, listing, Event, opened, added, reported, left, searched, listed, traced, judged, callOf, Allows, History, begins, goes}
 use Rattle.seasons.specs.Said.{change, lastOpen, standing, lastReport, Records, said, known, carsOf, carsWithin, zonesAt, zonesOf, zonesEntered, zonesLeft, looked, refusal, refused, tracedAt, accepted, outcome}
 use Rattle.seasons.specs.ChangeLaws.{recordsIn, step}

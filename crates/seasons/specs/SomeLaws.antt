@@ -15,24 +15,24 @@ use Rattle.tables.specs.Tables.{Tables, shapeOf, spotOf}
 use Rattle.tables.specs.CheckLaws.{→sized}
 use Rattle.tables.specs.Sound.{Sound}
 use Rattle.tables.specs.Steps.{addStep, removeStep, reportStep, leaveStep}
-use Rattle.tables.specs.JudgeLaws.{→sound}
-use Rattle.town.specs.declared.answers.Opened.{Opened}
-use Rattle.town.specs.declared.answers.Traced.{Traced}
-use Rattle.town.specs.declared.answers.Judged.{Judged}
-use Rattle.town.specs.declared.answers.Searched.{Searched}
-use Rattle.town.specs.declared.answers.Listed.{Listed}
-use Rattle.town.specs.declared.answers.Removed.{Removed}
-use Rattle.town.specs.declared.answers.Added.{Added}
-use Rattle.town.specs.declared.answers.Reported.{Reported}
-use Rattle.town.specs.declared.answers.Departed.{Departed}
-use Rattle.town.specs.Promises.{Opens, openRefusal, emptyTown, Adds, addRefusal, hasRoom, Removes, removeRefusal, Reports, reportRefusal, entered, left as parted, squaresLooked, Leaves, leaveRefusal, zonesOf, Searches, searchRefusal, found, Lists, listRefusal, roster, Traces, traceRefusal, Judges}
-use Rattle.town.specs.OpenLaws.{opens-refused}
-use Rattle.town.specs.AddLaws.{bars-last}
-use Rattle.town.specs.RemoveLaws.{removes-refused}
-use Rattle.town.specs.ReadLaws.{traces-refused, traces-done, lists-refused}
-use Rattle.town.specs.SearchLaws.{searches-refused}
-use Rattle.town.specs.ReportLaws.{reports-refused, leaves-refused}
-use Rattle.town.specs.JudgeLaws.{judges-sound}
+use Rattle.soundness.specs.JudgeLaws.{→sound}
+use Rattle.promises.specs.declared.answers.Opened.{Opened}
+use Rattle.promises.specs.declared.answers.Traced.{Traced}
+use Rattle.promises.specs.declared.answers.Judged.{Judged}
+use Rattle.promises.specs.declared.answers.Searched.{Searched}
+use Rattle.promises.specs.declared.answers.Listed.{Listed}
+use Rattle.promises.specs.declared.answers.Removed.{Removed}
+use Rattle.promises.specs.declared.answers.Added.{Added}
+use Rattle.promises.specs.declared.answers.Reported.{Reported}
+use Rattle.promises.specs.declared.answers.Departed.{Departed}
+use Rattle.promises.specs.Promises.{Opens, openRefusal, emptyTown, Adds, addRefusal, hasRoom, Removes, removeRefusal, Reports, reportRefusal, entered, left as parted, squaresLooked, Leaves, leaveRefusal, zonesOf, Searches, searchRefusal, found, Lists, listRefusal, roster, Traces, traceRefusal, Judges}
+use Rattle.zoning.specs.OpenLaws.{opens-refused}
+use Rattle.zoning.specs.AddLaws.{bars-last}
+use Rattle.zoning.specs.RemoveLaws.{removes-refused}
+use Rattle.reading.specs.ReadLaws.{traces-refused, traces-done, lists-refused}
+use Rattle.reading.specs.SearchLaws.{searches-refused}
+use Rattle.driving.specs.ReportLaws.{reports-refused, leaves-refused}
+use Rattle.reading.specs.JudgeLaws.{judges-sound}
 use Rattle.seasons.specs.Events.{Call, opening, adding, removing, reporting, leaving, searching, listing, tracing, judging, Event, opened, added, removed, reported, left, searched, listed, traced, judged, callOf, Allows}
 use Rattle.seasons.specs.Said.{outcome}
 use Rattle.seasons.specs.ChangeLaws.{recordsIn}

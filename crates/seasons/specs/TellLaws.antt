@@ -11,6 +11,7 @@ use borrow.Author.Tests.{eq-eqb, eqb-true}
 use Rattle.order.specs.Order.{upto}
 use Rattle.order.specs.TestLaws.{and→, both-ways}
 use Rattle.order.specs.KeepLaws.{keep-ext}
+use Rattle.order.specs.SumLaws.{sum-ext}
 use Rattle.squares.specs.declared.shape.Shape.{Shape}
 use Rattle.squares.specs.declared.shape.Rect.{Rect}
 use Rattle.squares.specs.Squares.{squares, differ}
@@ -23,10 +24,10 @@ use Rattle.tables.specs.CheckLaws.{→sized, long→, →long}
 use Rattle.tables.specs.Derived.{used}
 use Rattle.tables.specs.Sound.{Sound}
 use Rattle.tables.specs.Steps.{addStep}
-use Rattle.tables.specs.Tests.{zoneStands, cutSize as sizeIn}
-use Rattle.tables.specs.CountLaws.{sum-ext, count-used}
-use Rattle.town.specs.Promises.{openRefusal, traceRefusal, judgeRefusal, searchRefusal, heldBy, found, listRefusal, roster, removeRefusal, addBars, addRefusal, reportRefusal, entered, left as parted, squaresLooked, leaveRefusal, zonesOf as holders}
-use Rattle.town.specs.AddLaws.{add-taken, bars-none, add-room}
+use Rattle.soundness.specs.Tests.{zoneStands, cutSize as sizeIn}
+use Rattle.soundness.specs.CountLaws.{count-used}
+use Rattle.promises.specs.Promises.{openRefusal, traceRefusal, judgeRefusal, searchRefusal, heldBy, found, listRefusal, roster, removeRefusal, addBars, addRefusal, reportRefusal, entered, left as parted, squaresLooked, leaveRefusal, zonesOf as holders}
+use Rattle.zoning.specs.AddLaws.{add-taken, bars-none, add-room}
 use Rattle.seasons.specs.Events.{opening, adding, removing, reporting, leaving, searching, listing, tracing, judging}
 use Rattle.seasons.specs.Said.{known, lies, inZone, atZone, carsOf, carsWithin, zonesAt, zonesOf, zonesEntered, zonesLeft, looked, cutSize, entriesUsed, alike, refusal}
 use Rattle.seasons.specs.ChangeLaws.{openIn, zoneIn, carIn, recordsIn, next-zone-on}

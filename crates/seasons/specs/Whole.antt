@@ -6,6 +6,7 @@ use mathlib.Core.Option.{none}
 use lib.Ieee.{binary32, ofBits, toBits, isNan}
 use lib.ListN.{replicate}
 use Rattle.order.specs.Order.{span, keep}
+use Rattle.order.specs.Sums.{sum}
 use Rattle.squares.specs.declared.shape.Shape.{Shape}
 use Rattle.squares.specs.declared.shape.Rect.{Rect}
 use Rattle.squares.specs.ShapeLaws.{allowed→}
@@ -16,14 +17,13 @@ use Rattle.position.specs.Cell.{whole, inRange, onMap, cellOf}
 use Rattle.position.specs.Answer.{onTown, columnOf, rowOf}
 use Rattle.tables.specs.Tables.{Tables}
 use Rattle.tables.specs.CheckLaws.{roomy→, →long}
-use Rattle.tables.specs.Tests.{sum}
-use Rattle.town.specs.declared.answers.Opened.{Opened}
-use Rattle.town.specs.declared.answers.Listed.{Listed}
-use Rattle.town.specs.declared.answers.Added.{Added}
-use Rattle.town.specs.declared.answers.Reported.{Reported}
-use Rattle.town.specs.declared.answers.Departed.{Departed}
-use Rattle.town.specs.Promises.{emptyTown, openRefusal}
-use Rattle.town.specs.OpenLaws.{open-0, empty-sound}
+use Rattle.promises.specs.declared.answers.Opened.{Opened}
+use Rattle.promises.specs.declared.answers.Listed.{Listed}
+use Rattle.promises.specs.declared.answers.Added.{Added}
+use Rattle.promises.specs.declared.answers.Reported.{Reported}
+use Rattle.promises.specs.declared.answers.Departed.{Departed}
+use Rattle.promises.specs.Promises.{emptyTown, openRefusal}
+use Rattle.zoning.specs.OpenLaws.{open-0, empty-sound}
 use Rattle.seasons.specs.Events.{Call, opening, adding, reporting, leaving, listing, Event, opened, added, reported, left, listed, History}
 use Rattle.seasons.specs.Said.{said, lastOpen, standing, lastReport, refusal, accepted, outcome}
 use Rattle.seasons.specs.Seasons.{history-begins, history-goes}

@@ -7,6 +7,7 @@ use lib.Ieee.{Float, binary32, ofBits}
 use lib.ListN.{length, getD, getD-replicate, replicate, set}
 use borrow.Author.Tests.{eq-eqb, leb-true}
 use Rattle.order.specs.Order.{span, keep}
+use Rattle.order.specs.Sums.{sum}
 use Rattle.squares.specs.Squares.{cornerX, cornerY, evens}
 use Rattle.squares.specs.Cut.{cutTo, inCut, inside}
 use Rattle.tables.specs.Tables.{Tables, tables, shapeOf, rosterHas, zoneHolds, stands, placed}
@@ -15,10 +16,10 @@ use Rattle.tables.specs.Sound.{Sound}
 use Rattle.tables.specs.Steps.{fresh, parked}
 use Rattle.tables.specs.Check.{sized}
 use Rattle.tables.specs.CheckLaws.{sized→}
-use Rattle.tables.specs.Tests.{sound, every, recordsRight, freeAt, startRight, zoneFits, zoneStands, carFits, entriesRight, keyRight, sum, cutSize, parts, endsBelow, startsAbove, byteRight, has}
-use Rattle.tables.specs.EveryLaws.{→every}
-use Rattle.tables.specs.JudgeLaws.{sound→}
-use Rattle.tables.specs.SoundLaws.{entries-rest}
+use Rattle.soundness.specs.Tests.{sound, every, recordsRight, freeAt, startRight, zoneFits, zoneStands, carFits, entriesRight, keyRight, cutSize, parts, endsBelow, startsAbove, byteRight, has}
+use Rattle.soundness.specs.EveryLaws.{→every}
+use Rattle.soundness.specs.JudgeLaws.{sound→}
+use Rattle.soundness.specs.SoundLaws.{entries-rest}
 use Rattle.seasons.specs.Events.{History}
 use Rattle.seasons.specs.AgreeLaws.{replay}
 use Rattle.seasons.specs.Seasons.{tables-after}

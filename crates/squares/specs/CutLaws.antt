@@ -39,7 +39,7 @@ pub inside-child : (s : Shape) (r : Rect) (i n c : ℕ) → suc i ≤ s .k → c
 unfolding inside
 inside-child s r i n c h g e = rw (child-x s i n c h g, child-y s i n c h g) (quarter-within r (cornerX s i n) (cornerY s i n) (sideOn s (suc i)) (c % 2) (c / 2) (omega arith) (omega arith) (rw (side-halves s i h) at e))
 
-parent-inside : (s : Shape) (r : Rect) (i n : ℕ) → suc i ≤ s .k → inside s r i (n / 4) ≡ true → inside s r (suc i) n ≡ true
+pub parent-inside : (s : Shape) (r : Rect) (i n : ℕ) → suc i ≤ s .k → inside s r i (n / 4) ≡ true → inside s r (suc i) n ≡ true
 parent-inside s r i n h e = let m : n ≡ 4 * (n / 4) + n % 4 = omega arith in rw m (inside-child s r i (n / 4) (n % 4) h (omega arith) e)
 
 -- a cell whose square is inside has squares inside on every level below

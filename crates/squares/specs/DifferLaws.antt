@@ -1,57 +1,89 @@
 -- Laws of the levels on which two cells lie in different squares: they are the lowest ones, from the unit cell up.
-use Prim.Native.Nat.{ℕ, _+_, _-_, _≤_, _<_}
-use mathlib.Core.Path.{_≡_, ap, sym, _∙_}
+use Prim.Native.Nat.{ℕ, suc, _+_, _*_, _-_, _/_, _^_, _≤_, _<_}
+use mathlib.Core.Path.{_≡_, refl, ap, sym, _∙_}
 use mathlib.Core.Bool.{true, false, not}
-use mathlib.Core.Logic.{⊎-elim}
 use mathlib.Core.List.{List, _++_}
 use native.Mathlib.Omega.{arith}
+use native.Mathlib.Nat.{pow-suc, one-mul, div-eq-of-lt, le-div-iff-mul-le, lt-of-lt-of-le}
+use lib.Bits.{bitXor, xor-add-and, and-le-l, and-le-r, xor-shr, xor-self, xor-lt}
+use lib.Count.{leadingZeros, leading-length}
 use lib.ListN.{length}
+use lib.Pow.{pow-pos, pow-mono}
 use borrow.Author.Tests.{eq-eqb, ne-eqb}
 use Rattle.order.specs.Order.{span, upto, keep}
-use Rattle.order.specs.TestLaws.{lt-or-le}
 use Rattle.order.specs.KeepLaws.{span-add, length-span, span→, keep-append, keep-none, keep-all}
 use Rattle.squares.specs.declared.shape.Shape.{Shape}
 use Rattle.squares.specs.Squares.{number, differAt, differ}
-use Rattle.squares.specs.SquareLaws.{together-above}
+use Rattle.squares.specs.Leaves.{StepsApart}
+use Rattle.squares.specs.PowerLaws.{two-two}
+use Rattle.squares.specs.SquareLaws.{number-above}
 
--- the d lowest levels differ
-pub record Differing (s : Shape) (x y x′ y′ d : ℕ) : Type 0 where
+-- the d lowest levels differ, and no other
+pub record Apart (s : Shape) (x y x′ y′ d : ℕ) : Type 0 where
   pub few : d ≤ s .k + 1
   pub below : (i : ℕ) → i ≤ s .k → s .k - i < d → differAt s x y x′ y′ i ≡ true
-
--- and no other
-pub record Apart (s : Shape) (x y x′ y′ d : ℕ) : Type 0 where
-  pub low : Differing s x y x′ y′ d
   pub above : (i : ℕ) → i ≤ s .k → d ≤ s .k - i → differAt s x y x′ y′ i ≡ false
 
-pub differing-none : (s : Shape) (x y x′ y′ : ℕ) → Differing s x y x′ y′ 0
-differing-none s x y x′ y′ = record { few = omega arith; below = λ (i : ℕ) (l : i ≤ s .k) (h : s .k - i < 0). absurd (omega arith) }
+-- a cell and itself
+pub apart-none : (s : Shape) (x y : ℕ) → Apart s x y x y 0
+apart-none s x y = record { few = omega arith; below = λ (i : ℕ) (l : i ≤ s .k) (g : s .k - i < 0). absurd (omega arith); above = λ (i : ℕ) (l : i ≤ s .k) (g : 0 ≤ s .k - i). ap not (eq-eqb (number s i x y) (number s i x y) refl) }
 
-module _ {s : Shape} {x y x′ y′ d : ℕ} where
-  -- those are all that differ
-  pub differ-count : Apart s x y x′ y′ d → length (differ s x y x′ y′) ≡ d
-  differ-count h =
-      let p = differAt s x y x′ y′ in
-      let low = s .k + 1 - d in
-      let e : s .k + 1 ≡ low + d = omega (arith, h .low .few) in
-      let none = keep-none p (upto low) (λ i m. h .above i (omega (arith, span→ 0 low i m)) (omega (arith, span→ 0 low i m))) in
-      let all = keep-all p (span (0 + low) d) (λ i m. h .low .below i (omega (arith, span→ (0 + low) d i m)) (omega (arith, span→ (0 + low) d i m))) in
-      ap length (ap (λ (n : ℕ). keep p (upto n)) e ∙ ap (keep p) (span-add 0 low d) ∙ keep-append p (upto low) (span (0 + low) d) ∙ ap (λ (l : List ℕ). l ++ keep p (span (0 + low) d)) none ∙ all) ∙ length-span (0 + low) d
+-- those are all that differ
+pub differ-count : {s : Shape} {x y x′ y′ d : ℕ} → Apart s x y x′ y′ d → length (differ s x y x′ y′) ≡ d
+differ-count {s} {x} {y} {x′} {y′} {d} h =
+    let p = differAt s x y x′ y′ in
+    let low = s .k + 1 - d in
+    let e : s .k + 1 ≡ low + d = omega (arith, h .few) in
+    let none = keep-none p (upto low) (λ i m. h .above i (omega (arith, span→ 0 low i m)) (omega (arith, span→ 0 low i m))) in
+    let all = keep-all p (span (0 + low) d) (λ i m. h .below i (omega (arith, span→ (0 + low) d i m)) (omega (arith, span→ (0 + low) d i m))) in
+    ap length (ap (λ (n : ℕ). keep p (upto n)) e ∙ ap (keep p) (span-add 0 low d) ∙ keep-append p (upto low) (span (0 + low) d) ∙ ap (λ (l : List ℕ). l ++ keep p (span (0 + low) d)) none ∙ all) ∙ length-span (0 + low) d
 
-  module _ (h : Differing s x y x′ y′ d) where
-    -- together on the next level, so on all above it
-    pub apart-stops : d ≤ s .k → number s (s .k - d) x y ≡ number s (s .k - d) x′ y′ → Apart s x y x′ y′ d
-    apart-stops g e = record { low = h; above = λ (i : ℕ) (l : i ≤ s .k) (f : d ≤ s .k - i). ap not (eq-eqb (number s i x y) (number s i x′ y′) (together-above s i (s .k - d) x y x′ y′ (omega arith) (omega arith) e)) }
+-- ---- by the numbers of the unit cells
 
-    pub apart-all : s .k < d → Apart s x y x′ y′ d
-    apart-all g = record { low = h; above = λ (i : ℕ) (l : i ≤ s .k) (f : d ≤ s .k - i). absurd (omega arith) }
+pub steps-apart : {s : Shape} {x y x′ y′ d : ℕ} → StepsApart (s .k) (number s (s .k) x y) (number s (s .k) x′ y′) d → Apart s x y x′ y′ d
+steps-apart {s} {x} {y} {x′} {y′} {d} h = record {
+  few = h .few;
+  below = λ (i : ℕ) (l : i ≤ s .k) (g : s .k - i < d). ap not (ne-eqb (number s i x y) (number s i x′ y′) (λ q. h .apart (s .k - i) g (up i l x y ∙ q ∙ sym (up i l x′ y′))));
+  above = λ (i : ℕ) (l : i ≤ s .k) (g : d ≤ s .k - i). ap not (eq-eqb (number s i x y) (number s i x′ y′) (sym (up i l x y) ∙ h .together (s .k - i) (omega arith) g ∙ up i l x′ y′));
+}
+  where
+    up : (i : ℕ) → i ≤ s .k → (x y : ℕ) → number s (s .k) x y / 4 ^ (s .k - i) ≡ number s i x y
+    up i l x y = let e : s .k - i + i ≡ s .k = omega arith in rw e at (number-above s (s .k - i) i x y (omega arith))
 
-    -- apart on the next level too
-    pub differing-more : d ≤ s .k → (number s (s .k - d) x y ≡ number s (s .k - d) x′ y′ → ⊥) → Differing s x y x′ y′ (d + 1)
-    differing-more g f = record {
-      few = omega arith;
-      below = λ (i : ℕ) (l : i ≤ s .k) (u : s .k - i < d + 1). ⊎-elim
-          (λ (a : s .k - i < d). h .below i l a)
-          (λ (a : d ≤ s .k - i). let e : i ≡ s .k - d = omega arith in ap not (ne-eqb (number s i x y) (number s i x′ y′) (λ q. f (ap (λ (j : ℕ). number s j x y) (sym e) ∙ q ∙ ap (λ (j : ℕ). number s j x′ y′) e))))
-          (lt-or-le (s .k - i) d);
-    }
+-- ---- by the bits of those numbers
+
+-- no bit differs
+xor-none : (a b : ℕ) → bitXor a b ≡ 0 → a ≡ b
+xor-none a b e = omega (arith, xor-add-and a b, and-le-l a b, and-le-r a b)
+
+-- from the j-th on none does, or one does
+xor-low : (a b j : ℕ) → bitXor a b < 2 ^ j → a / 2 ^ j ≡ b / 2 ^ j
+xor-low a b j h = xor-none (a / 2 ^ j) (b / 2 ^ j) (sym (xor-shr a b j) ∙ div-eq-of-lt h)
+
+xor-high : (a b j : ℕ) → 2 ^ j ≤ bitXor a b → a / 2 ^ j ≡ b / 2 ^ j → ⊥
+xor-high a b j h e =
+    let none : bitXor a b / 2 ^ j ≡ 0 = xor-shr a b j ∙ ap (λ (n : ℕ). bitXor n (b / 2 ^ j)) e ∙ xor-self (b / 2 ^ j) in
+    let some : 1 ≤ bitXor a b / 2 ^ j = le-div-iff-mul-le (pow-pos j) .1 (omega (arith, one-mul (2 ^ j))) in
+    omega arith
+
+-- half as many as the bits up to the highest one that differs, rounded up
+abbrev pub halfLength : ℕ → ℕ → ℕ
+halfLength a b = (33 - leadingZeros 32 (bitXor a b)) / 2
+
+module _ {a b : ℕ} (h : a < 2 ^ 32) (h′ : b < 2 ^ 32) where
+  below : (j : ℕ) → j < halfLength a b → a / 4 ^ j ≡ b / 4 ^ j → ⊥
+  below j g =
+      let t = leading-length 32 (bitXor a b) (xor-lt 32 a b h h′) in
+      let p = pow-mono {i = suc (2 * j)} {j = t .0} (omega (arith, t .1)) in
+      rw (← two-two j) (xor-high a b (2 * j) (omega (arith, t .3, p, pow-suc 2 (2 * j))))
+
+  above : (j : ℕ) → halfLength a b ≤ j → a / 4 ^ j ≡ b / 4 ^ j
+  above j g =
+      let t = leading-length 32 (bitXor a b) (xor-lt 32 a b h h′) in
+      rw (← two-two j) (xor-low a b (2 * j) (lt-of-lt-of-le (t .2) (pow-mono (omega (arith, t .1)))))
+
+  pub steps-some : {k : ℕ} → halfLength a b ≤ k → StepsApart k a b (halfLength a b)
+  steps-some l = record { few = omega arith; apart = λ j g. below j g; together = λ j m g. above j g }
+
+  pub steps-all : {k : ℕ} → k < halfLength a b → StepsApart k a b (k + 1)
+  steps-all {k} l = record { few = omega arith; apart = λ (j : ℕ) (g : j < k + 1). below j (omega arith); together = λ (j : ℕ) (m : j ≤ k) (g : k + 1 ≤ j). absurd (omega arith) }

@@ -1,5 +1,5 @@
 -- What the functions below the calls ask and promise: a number by its definition, with the bounds that callers need.
-use Prim.Native.Nat.{ℕ, suc, _+_, _*_, _^_, _<_, _≤_}
+use Prim.Native.Nat.{ℕ, suc, _+_, _*_, _/_, _^_, _<_, _≤_}
 use mathlib.Core.Path.{_≡_}
 use mathlib.Core.List.{List, map}
 use lib.ListN.{length}
@@ -19,6 +19,12 @@ pub record Below (n bound r : ℕ) : Type 0 where
   pub is : r ≡ n
   pub below : r < bound
 
+-- numbers of i bits, of which no more than five are interleaved
+pub record Bits (i a b : ℕ) : Type 0 where
+  pub few : i ≤ 5
+  pub across : a < 2 ^ i
+  pub up : b < 2 ^ i
+
 pub record OnLevel (s : Shape) (i : ℕ) : Type 0 where
   pub shape : Allowed s
   pub level : i ≤ s .k
@@ -27,6 +33,12 @@ pub record OnMap (s : Shape) (x y : ℕ) : Type 0 where
   pub shape : Allowed s
   pub column : x < width s
   pub row : y < height s
+
+-- of the squares around the unit cells a and b, j steps up, the first d differ and the others, as far as k steps up, do not
+pub record StepsApart (k a b d : ℕ) : Type 0 where
+  pub few : d ≤ k + 1
+  pub apart : (j : ℕ) → j < d → a / 4 ^ j ≡ b / 4 ^ j → ⊥
+  pub together : (j : ℕ) → j ≤ k → d ≤ j → a / 4 ^ j ≡ b / 4 ^ j
 
 -- sums of a rectangle's and a square's coordinates are small
 pub record Near (r : Rect) (x y d : ℕ) : Type 0 where
@@ -75,6 +87,11 @@ pub record AllRoom (s : Shape) (r : Rect) : Type 0 where
 
 pub record AllStores (s : Shape) (r : Rect) (b b′ : List ℕ) (t : ℕ) : Type 0 where
   pub wrote : Wrote b b′ 0 t (cut s r)
+
+-- a stretch on the map, taken in steps of 2 ^ j
+pub record Stretch (a w j : ℕ) : Type 0 where
+  pub short : a + w ≤ 256
+  pub step : j ≤ 5
 
 -- how many squares a cut has
 pub record Counted (s : Shape) (r : Rect) (t : ℕ) : Type 0 where

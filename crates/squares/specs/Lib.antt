@@ -4,13 +4,16 @@ pub mod Cut
 pub mod Promises
 pub mod Leaves
 pub mod Descent
+pub mod Count
 pub mod PowerLaws
 pub mod ShapeLaws
 pub mod SquareLaws
 pub mod DifferLaws
+pub mod GridLaws
 pub mod CornerLaws
 pub mod RectLaws
 pub mod CutLaws
+pub mod CountLaws
 pub mod DescentLaws
 pub mod BlockLaws
 pub mod StepLaws

@@ -1,4 +1,4 @@
--- Laws of powers, of interleaved bits and of bits taken apart, as the loops that make them need them.
+-- Laws of powers, and of bits taken apart as the loop that does it needs them.
 use Prim.Native.Nat.{ℕ, zero, suc, _+_, _-_, _*_, _/_, _%_, _^_, _<_, _≤_, zero-le}
 use mathlib.Core.Path.{_≡_, refl, sym, _∙_}
 use native.Mathlib.Omega.{arith}
@@ -9,7 +9,7 @@ use lib.Dec.{lit<}
 use mir.Syntax.{w32}
 use mir.Val.{Fits}
 use lib.Pow.{pow-mono, shl-exact}
-use Rattle.squares.specs.Squares.{interleave, evens}
+use Rattle.squares.specs.Squares.{evens}
 use Rattle.squares.specs.Leaves.{Below}
 
 pub four-pos : (i : ℕ) → 0 < 4 ^ i
@@ -56,14 +56,6 @@ module _ (base i whole : ℕ) where
 
   pub digits-room : (rest r place j : ℕ) → base ≤ 4 → i ≤ 5 → Digits base i whole rest r place j → place ≤ 1024
   digits-room rest r place j g l h = rw (h .power) (le-trans (pow-le-pow-left g j) (four-small j 5 (le-trans (h .turns) l)))
-
-pub interleave-turn : (i j a b : ℕ) → j < i → interleave (i - j) a b ≡ 4 * interleave (i - (j + 1)) (a / 2) (b / 2) + (2 * (b % 2) + a % 2)
-unfolding interleave
-interleave-turn i j a b h = let e : i - j ≡ suc (i - (j + 1)) = omega arith in rw e
-
-pub interleave-end : (i j a b : ℕ) → i ≤ j → interleave (i - j) a b ≡ 0
-unfolding interleave
-interleave-end i j a b h = let e : i - j ≡ 0 = omega arith in rw e
 
 pub evens-turn : (i j n : ℕ) → j < i → evens (i - j) n ≡ 2 * evens (i - (j + 1)) (n / 4) + n % 2
 unfolding evens

@@ -1,15 +1,15 @@
 -- How a call keeps its promise: by the first test that fails, or by what it answers where none does.
-use Prim.Native.Nat.{ℕ, zero, suc, _+_, _<_, _≤_}
-use mathlib.Core.Path.{_≡_, refl, ap, sym, subst, _∙_}
+use Prim.Native.Nat.{ℕ, zero, suc, _<_, _≤_}
+use mathlib.Core.Path.{_≡_, refl, ap, sym, _∙_}
 use mathlib.Core.Bool.{Bool, true, false}
-use mathlib.Core.List.{List, _++_}
+use mathlib.Core.List.{List}
 use native.Mathlib.Nat.{zero-add}
 use native.Mathlib.Omega.{arith}
 use lib.ListN.{length}
 use borrow.Author.Tests.{le-leb, lt-leb, lt-ltb, le-ltb}
 use Rattle.order.specs.Order.{over}
 use Rattle.order.specs.Buffer.{Wrote}
-use Rattle.order.specs.BufferLaws.{nothing-written, wrote-over}
+use Rattle.order.specs.BufferLaws.{wrote-over}
 use Rattle.squares.specs.declared.shape.Shape.{Shape}
 use Rattle.squares.specs.declared.shape.Rect.{Rect}
 use Rattle.squares.specs.declared.numbers.Numbered.{Numbered}
@@ -18,6 +18,7 @@ use Rattle.squares.specs.declared.cut.Cut.{Cut}
 use Rattle.squares.specs.Shape.{allowed, fits}
 use Rattle.squares.specs.Squares.{number, squareOf, isCorner, squaresOn}
 use Rattle.squares.specs.Cut.{cut}
+use Rattle.squares.specs.Leaves.{Counted}
 use Rattle.squares.specs.Promises.{Numbers, numberRefusal, Locates, locateRefusal, Cuts, cutRefusal, unless}
 
 pub not-both : (n m : ℕ) → n ≡ suc m → n ≡ 0 → ⊥
@@ -113,16 +114,12 @@ module _ (s : Shape) (r : Rect) (room : ℕ) where
   unfolding cutRefusal
   cut-0 e f h = rw (e, f, le-leb (length (cut s r)) room h)
 
--- the cut counted into no room, l, and then refused or written
-module _ (s : Shape) (r : Rect) (b l : List ℕ) (count : ℕ) (none : length l ≡ 0) (ok : allowed s ≡ true) (fit : fits s r ≡ true) (is : count ≡ 0 + length (cut s r)) where
-  pub cuts-short : length (l ++ b) < count → Cuts s r b (l ++ b) (Cut.Refused 11)
-  cuts-short h =
-      let e = nothing-written l b none in
-      let g : length b < length (cut s r) = omega (arith, ap length e) in
-      subst (λ (b′ : List ℕ). Cuts s r b b′ (Cut.Refused 11)) (sym e) (cuts-refused s r b 10 (cut-11 s r (length b) ok fit g))
+-- the cut counted, and then refused or written
+module _ (s : Shape) (r : Rect) (b : List ℕ) (count : ℕ) (ok : allowed s ≡ true) (fit : fits s r ≡ true) (h : Counted s r count) where
+  pub cuts-short : length b < count → Cuts s r b b (Cut.Refused 11)
+  cuts-short g = cuts-refused s r b 10 (cut-11 s r (length b) ok fit (omega (arith, h .is)))
 
-  pub cuts-listed : (b′ : List ℕ) (n : ℕ) → count ≤ length (l ++ b) → Wrote (l ++ b) b′ 0 n (cut s r) → Cuts s r b b′ (Cut.Listed n)
-  cuts-listed b′ n h w =
-      let e = nothing-written l b none in
-      let g : length (cut s r) ≤ length b = omega (arith, ap length e) in
-      cuts-done s r b b′ n (cut-0 s r (length b) ok fit g) (w .next ∙ zero-add (length (cut s r))) (wrote-over (rw e at w) g)
+  pub cuts-listed : (b′ : List ℕ) (n : ℕ) → count ≤ length b → Wrote b b′ 0 n (cut s r) → Cuts s r b b′ (Cut.Listed n)
+  cuts-listed b′ n g w =
+      let enough : length (cut s r) ≤ length b = omega (arith, h .is) in
+      cuts-done s r b b′ n (cut-0 s r (length b) ok fit enough) (w .next ∙ zero-add (length (cut s r))) (wrote-over w enough)

@@ -4,7 +4,7 @@ use mathlib.Core.Path.{_≡_, refl, sym, subst, _∙_}
 use mathlib.Core.Bool.{true, false}
 use native.Mathlib.Omega.{arith}
 use native.Mathlib.Numerals.{add-one}
-use native.Mathlib.Nat.{mul-left-comm, mul-comm, mul-one, mul-le-mul, mul-le-mul-left, le-mul-of-pos-right, mul-mul-mul-comm, mul-pos, div-lt-iff-lt-mul, le-div-iff-mul-le, le-trans, le-refl, sub-le, pow-succ', mod-le, div-le-self}
+use native.Mathlib.Nat.{mul-left-comm, mul-comm, mul-one, mul-le-mul, mul-le-mul-left, le-mul-of-pos-right, mul-mul-mul-comm, mul-pos, div-lt-iff-lt-mul, le-div-iff-mul-le, le-trans, le-refl, sub-le, pow-succ', mod-le, mod-lt, div-le-self}
 use lib.Dec.{leb, ltb, eqb}
 use mir.Syntax.{w32}
 use mir.Val.{Fits}
@@ -16,7 +16,7 @@ use Rattle.squares.specs.declared.shape.Shape.{Shape}
 use Rattle.squares.specs.declared.shape.Rect.{Rect}
 use Rattle.squares.specs.Shape.{side, width, height, Allowed, allowed, Fits as InTown, fits}
 use Rattle.squares.specs.Squares.{sideOn, squaresOn, squares, isCorner, block, number, interleave}
-use Rattle.squares.specs.Leaves.{Positive, Below}
+use Rattle.squares.specs.Leaves.{Positive, Below, Bits, OnLevel}
 use Rattle.squares.specs.PowerLaws.{two-two, four-pos, four-small}
 
 pub allowed→ : (s : Shape) → allowed s ≡ true → Allowed s
@@ -138,6 +138,17 @@ module _ (s : Shape) (r : ℕ) (p : Positive (side s) 32 r) where
 
   pub →most : (n : ℕ) → n * side s ≤ 256 → n ≤ 256 / r
   →most n g = le-div-iff-mul-le (p .some) .1 (subst (λ (t : ℕ). n * t ≤ 256) (sym (p .is)) g)
+
+-- the top bits of two coordinates are as many as the level says
+module _ {s : Shape} {i d e : ℕ} (l : OnLevel s i) (p : Positive (side s) 32 d) (q : Positive (sideOn s i) 32 e) where
+  top-below : (x : ℕ) → x % d / e < 2 ^ i
+  top-below x =
+      let k : i + (s .k - i) ≡ s .k = omega (arith, l .level) in
+      let whole : 2 ^ i * e ≡ d = rw (q .is, ← pow-add 2 i (s .k - i), k) (sym (p .is)) in
+      div-lt-iff-lt-mul (q .some) .1 (rw whole (mod-lt x (p .some)))
+
+  pub tops : (x y : ℕ) → Bits i (x % d / e) (y % d / e)
+  tops x y = record { few = le-trans (l .level) (l .shape .levels); across = top-below x; up = top-below y }
 
 -- what `number` works out
 module _ (s : Shape) (h : Allowed s) (i x y d e many b local : ℕ) (low : i ≤ s .k) (p : Positive (side s) 32 d) (q : Positive (sideOn s i) 32 e) (f : Positive (4 ^ i) 4096 many) (g : Below (block s x y) (s .P * s .Q) b) (l : Below (interleave i (x % d / e) (y % d / e)) (4 ^ i) local) where

@@ -4,12 +4,13 @@ use mathlib.Core.Path.{_≡_, refl, ap, sym, _∙_}
 use mathlib.Core.Logic.{_↔_}
 use native.Mathlib.Omega.{arith}
 use native.Mathlib.Numerals.{add-one}
-use native.Mathlib.Nat.{pow-succ', div-lt-iff-lt-mul, div-add-mod', div-mul-le-self, lt-div-mul-add, mod-lt, mod-one, mul-comm, mul-assoc, add-comm, suc-add, zero-add, suc-mul, mul-le-mul-right, mul-div-cancel, mul-mod-left, mul-sub, mul-one, mul-left-comm, eq-of-mul-eq-mul-right}
-use lib.Pow.{pow-pos, pow-add, shr-shr, shl-shr, mod-pow-add, field}
+use native.Mathlib.Nat.{pow-succ', div-one, div-div-eq-div-mul, div-lt-iff-lt-mul, div-add-mod', div-mul-le-self, lt-div-mul-add, mod-lt, mod-one, mul-comm, mul-assoc, add-comm, suc-add, zero-add, suc-mul, mul-le-mul-right, mul-div-cancel, mul-mod-left, mul-sub, mul-one, mul-left-comm, eq-of-mul-eq-mul-right}
+use lib.Pow.{pow-pos, pow-mono, pow-add, shr-shr, shl-shr, mod-pow-add, field}
 use lib.Arith.{digits-lt, digits-div, digits-mod, mod-mul}
 use Rattle.squares.specs.declared.shape.Shape.{Shape}
 use Rattle.squares.specs.Shape.{side, width, height}
 use Rattle.squares.specs.PowerLaws.{four-pos}
+use Rattle.squares.specs.Leaves.{Below, Bits}
 use Rattle.squares.specs.Squares.{sideOn, squaresOn, squares, interleave, block, number, evens, cornerX, cornerY}
 
 -- ---- bits interleaved and taken apart
@@ -31,6 +32,57 @@ pub evens-below : (i n : ℕ) → evens i n < 2 ^ i
 unfolding evens
 evens-below zero n = omega arith
 evens-below (suc i) n = let h = evens-below i (n / 4) in omega arith
+
+-- the bits of a and those of b apart, each with 0 in the other's place
+interleave-apart : (i a b : ℕ) → interleave i a b ≡ interleave i a 0 + 2 * interleave i b 0
+unfolding interleave
+interleave-apart zero a b = refl
+interleave-apart (suc i) a b = let e = interleave-apart i (a / 2) (b / 2) in omega arith
+
+-- beyond the bits that there are stand zeros
+interleave-more : (i j a : ℕ) → a < 2 ^ i → i ≤ j → interleave j a 0 ≡ interleave i a 0
+unfolding interleave
+interleave-more zero zero a h g = refl
+interleave-more zero (suc j) a h g =
+    let z : a ≡ 0 = omega arith in
+    let e = interleave-more zero j 0 (omega arith) (omega arith) in
+    rw z (omega arith)
+interleave-more (suc i) zero a h g = absurd (omega arith)
+interleave-more (suc i) (suc j) a h g = let e = interleave-more i j (a / 2) (omega (arith, pow-succ' 2 i)) (omega arith) in omega arith
+
+-- the bits of a number of five, each with a 0 above it: bit by bit, and summed
+spread-more : (i a : ℕ) → interleave (suc i) a 0 + 2 * (a / 2) ≡ 4 * interleave i (a / 2) 0 + a
+unfolding interleave
+spread-more i a = omega arith
+
+spread-last : (a : ℕ) → a < 2 → interleave 1 a 0 ≡ a
+unfolding interleave
+spread-last a h = omega arith
+
+spread-sum : (a b c d e p q r s : ℕ) → p + 2 * b ≡ 4 * q + a → q + 2 * c ≡ 4 * r + b → r + 2 * d ≡ 4 * s + c → s + 2 * e ≡ 4 * e + d → a + 2 * b + (8 * c + (32 * d + 128 * e)) ≡ p
+spread-sum a b c d e p q r s h i j k = omega arith
+
+pub spread-is : (a : ℕ) → a < 32 → Below (interleave 5 a 0) 1024 (a + 2 * (a / 2) + (8 * (a / 4) + (32 * (a / 8) + 128 * (a / 16))))
+spread-is a h =
+    let two : a / 2 / 2 ≡ a / 4 = omega arith in
+    let three : a / 4 / 2 ≡ a / 8 = omega arith in
+    let four : a / 8 / 2 ≡ a / 16 = omega arith in
+    let last = spread-last (a / 16) (omega arith) in
+    let is = spread-sum a (a / 2) (a / 4) (a / 8) (a / 16) _ _ _ _ (spread-more 4 a) (rw two at (spread-more 3 (a / 2))) (rw three at (spread-more 2 (a / 4))) (rw (four, last) at (spread-more 1 (a / 8))) in
+    record { is = is; below = rw is (interleave-below 5 a 0) }
+
+module _ {i a b : ℕ} (h : Bits i a b) where
+  pub bits-small : (a < 32) × (b < 32)
+  bits-small = let m : 2 ^ i ≤ 32 = pow-mono (h .few) in omega (arith, h .across, h .up)
+
+  pub interleaved-is : (r t : ℕ) → Below (interleave 5 a 0) 1024 r → Below (interleave 5 b 0) 1024 t → Below (interleave i a b) (4 ^ i) (r + 2 * t)
+  interleaved-is r t p q =
+      let e : r + 2 * t ≡ interleave i a b = rw (p .is, q .is, interleave-more i 5 a (h .across) (h .few), interleave-more i 5 b (h .up) (h .few)) (sym (interleave-apart i a b)) in
+      record { is = e; below = rw e (interleave-below i a b) }
+
+  pub interleaved-none : i ≡ 0 → Below (interleave i a b) (4 ^ i) 0
+  unfolding interleave
+  interleaved-none e = rw e (record { is = refl; below = omega arith })
 
 -- the bits of a and of b come out as they went in
 pub evens-interleave : (i a b : ℕ) → evens i (interleave i a b) ≡ a % 2 ^ i
@@ -69,7 +121,7 @@ interleave-mod (suc i) a b =
     rw (e, f, interleave-mod i (a / 2) (b / 2)) (omega (arith, mod-two i a, mod-two i b))
 
 -- a block in front of the number within it
-evens-high : (i q n : ℕ) → evens i (4 ^ i * q + n) ≡ evens i n
+pub evens-high : (i q n : ℕ) → evens i (4 ^ i * q + n) ≡ evens i n
 unfolding evens
 evens-high zero q n = refl
 evens-high (suc i) q n =
@@ -77,7 +129,7 @@ evens-high (suc i) q n =
     let e : (4 ^ suc i * q + n) / 4 ≡ 4 ^ i * q + n / 4 = omega arith in
     rw (e, evens-high i q (n / 4)) (omega arith)
 
-odds-high : (i q n : ℕ) → evens i ((4 ^ i * q + n) / 2) ≡ evens i (n / 2)
+pub odds-high : (i q n : ℕ) → evens i ((4 ^ i * q + n) / 2) ≡ evens i (n / 2)
 unfolding evens
 odds-high zero q n = refl
 odds-high (suc i) q n =
@@ -91,10 +143,10 @@ odds-high (suc i) q n =
 abbrev place : ℕ → ℕ → ℕ → ℕ → ℕ
 place p i a b = 4 ^ i * (a / 2 ^ i + b / 2 ^ i * p) + interleave i a b
 
-abbrev column : ℕ → ℕ → ℕ → ℕ
+abbrev pub column : ℕ → ℕ → ℕ → ℕ
 column p i n = n / 4 ^ i % p * 2 ^ i + evens i n
 
-abbrev row : ℕ → ℕ → ℕ → ℕ
+abbrev pub row : ℕ → ℕ → ℕ → ℕ
 row p i n = n / 4 ^ i / p * 2 ^ i + evens i (n / 2)
 
 place-block : (p i a b : ℕ) → place p i a b / 4 ^ i ≡ b / 2 ^ i * p + a / 2 ^ i
@@ -138,7 +190,7 @@ place-below p q i a b h g =
 -- ---- the squares of a town
 
 -- p blocks are p * 2 ^ i squares
-blocks : (s : Shape) (i p : ℕ) → i ≤ s .k → p * side s ≡ p * 2 ^ i * sideOn s i
+pub blocks : (s : Shape) (i p : ℕ) → i ≤ s .k → p * side s ≡ p * 2 ^ i * sideOn s i
 blocks s i p h = let e : s .k ≡ i + (s .k - i) = omega arith in ap (λ (k : ℕ). p * 2 ^ k) e ∙ rw (pow-add 2 i (s .k - i), mul-assoc p (2 ^ i) (sideOn s i))
 
 -- the square of a cell lies in the grid
@@ -183,6 +235,13 @@ number-parent s i x y h =
   where
     half : (z : ℕ) → z % 2 ^ s .k / 2 ^ (s .k - suc i) / 2 ≡ z % 2 ^ s .k / 2 ^ (s .k - i)
     half z = let e : s .k - suc i + 1 ≡ s .k - i = omega arith in shr-shr (z % 2 ^ s .k) (s .k - suc i) 1 ∙ ap (λ (k : ℕ). z % 2 ^ s .k / 2 ^ k) e
+
+-- and the number d levels above
+pub number-above : (s : Shape) (d i x y : ℕ) → d + i ≤ s .k → number s (d + i) x y / 4 ^ d ≡ number s i x y
+number-above s zero i x y h = rw zero-add (div-one (number s i x y))
+number-above s (suc d) i x y h =
+    let g : suc (d + i) ≤ s .k = omega arith in
+    rw (suc-add, pow-succ' 4 d, ← div-div-eq-div-mul (number s (suc (d + i)) x y) 4 (4 ^ d), number-parent s (d + i) x y g) (number-above s d i x y (omega arith))
 
 -- a cell at a multiple of the side is its square's corner
 multiple : (s : Shape) (i x : ℕ) → x % sideOn s i ≡ 0 → x / sideOn s i * sideOn s i ≡ x
@@ -243,13 +302,9 @@ same-number s i x y x′ y′ h g g′ = (
 
 -- two cells in one square are in one square on every level above
 pub together-above : (s : Shape) (j i x y x′ y′ : ℕ) → j ≤ i → i ≤ s .k → number s i x y ≡ number s i x′ y′ → number s j x y ≡ number s j x′ y′
-together-above s j i x y x′ y′ l h e = let f : i ≡ i - j + j = omega arith in go (i - j) (omega arith) (rw (← f) e)
-  where
-    go : (d : ℕ) → d + j ≤ s .k → number s (d + j) x y ≡ number s (d + j) x′ y′ → number s j x y ≡ number s j x′ y′
-    go zero g q = rw zero-add at q
-    go (suc d) g q =
-        let q′ = rw (suc-add d j) at q in
-        go d (omega arith) (sym (number-parent s (d + j) x y (omega arith)) ∙ ap (λ (n : ℕ). n / 4) q′ ∙ number-parent s (d + j) x′ y′ (omega arith))
+together-above s j i x y x′ y′ l h e =
+    let f : i ≡ i - j + j = omega arith in
+    sym (number-above s (i - j) j x y (omega arith)) ∙ ap (λ (n : ℕ). n / 4 ^ (i - j)) (rw (← f) e) ∙ number-above s (i - j) j x′ y′ (omega arith)
 
 -- a cell has a number exactly when it lies in the square
 pub in-square : (s : Shape) (i n x y : ℕ) → i ≤ s .k → x < width s → (number s i x y ≡ n) ↔ ((cornerX s i n ≤ x) × (x < cornerX s i n + sideOn s i) × (cornerY s i n ≤ y) × (y < cornerY s i n + sideOn s i))
@@ -268,7 +323,8 @@ unfoldable pub squaresTo : Shape → ℕ → ℕ
 squaresTo s zero = 0
 squaresTo s (suc m) = squaresTo s m + squaresOn s m
 
-thrice : (s : Shape) (m : ℕ) → 3 * squaresTo s m + s .P * s .Q ≡ squaresOn s m
+-- three times those and the blocks are the squares on level m
+pub thrice : (s : Shape) (m : ℕ) → 3 * squaresTo s m + s .P * s .Q ≡ squaresOn s m
 unfolding squaresTo
 thrice s zero = let o = mul-one (s .P * s .Q) in omega arith
 thrice s (suc m) =

@@ -1,7 +1,7 @@
 // Powers of two and four, bits interleaved and taken apart.
 ghost use Prim.Native.Nat.{_^_, _<_, _≤_};
 ghost use Rattle.squares.specs.Squares.{interleave, evens};
-ghost use Rattle.squares.specs.Leaves.{Positive, Below};
+ghost use Rattle.squares.specs.Leaves.{Positive, Below, Bits};
 
 pub fn two_to(j: u32) -> u32
     requires { ⌜ j ≤ 5 ⌝ }
@@ -17,24 +17,24 @@ pub fn four_to(i: u32) -> u32
     1u32 << (2 * i)
 }
 
-// The i lowest bits of a and b, b's bit above a's of the same rank.
+// The bits of a, each with a 0 above it. Bit j is a / 2^j less 2 * (a / 2^(j + 1)), and goes to 4^j:
+// the sum of all five is this one.
+fn spread(a: u32) -> u32
+    requires { ⌜ a < 32 ⌝ }
+    ensures { λ r. ⌜ Below (interleave 5 a 0) 1024 r ⌝ }
+{
+    (a + 2 * (a / 2)) + (8 * (a / 4) + (32 * (a / 8) + 128 * (a / 16)))
+}
+
+// The bits of a and b, i of each, b's bit above a's of the same rank.
 pub fn interleaved(i: u32, a: u32, b: u32) -> u32
-    requires { ⌜ i ≤ 5 ⌝ }
+    requires { ⌜ Bits i a b ⌝ }
     ensures { λ r. ⌜ Below (interleave i a b) (4 ^ i) r ⌝ }
 {
-    let mut r = 0u32;
-    let mut place = 1u32;
-    let mut x = a;
-    let mut y = b;
-    let mut j = 0u32;
-    while j < i {
-        r += (2 * (y % 2) + x % 2) * place;
-        place *= 4;
-        x /= 2;
-        y /= 2;
-        j += 1;
+    if i == 0 {
+        return 0;
     }
-    r
+    spread(a) + 2 * spread(b)
 }
 
 // Every other bit of n from the lowest on, i of them.

@@ -1,10 +1,11 @@
 -- What the records give afresh: the entries in use, where each square's list starts, the rosters.
 use Prim.Native.Nat.{ℕ, _+_, _-_, _*_, _/_, _%_, _^_}
-use mathlib.Core.Bool.{Bool, true, false, _&&_}
+use mathlib.Core.Bool.{Bool, _&&_}
 use mathlib.Core.List.{List, _++_, map}
 use lib.Dec.{leb}
 use lib.ListN.{length, replicate}
 use Rattle.order.specs.Order.{upto, keep}
+use Rattle.order.specs.Sums.{bit}
 use Rattle.squares.specs.declared.shape.Shape.{Shape}
 use Rattle.squares.specs.Squares.{squares}
 use Rattle.squares.specs.Cut.{inCut}
@@ -18,6 +19,10 @@ before s i = s .P * s .Q * (4 ^ i - 1) / 3
 
 abbrev pub place : Shape → ℕ → ℕ → ℕ
 place s i n = before s i + n
+
+-- the place of a square's parent
+abbrev pub parentOf : Shape → ℕ → ℕ
+parentOf s p = (p - s .P * s .Q) / 4
 
 -- the level of a place is how many of the levels 1 to k begin at it or before it
 unfoldable pub levelAt : Shape → ℕ → ℕ
@@ -50,10 +55,6 @@ abbrev pub startsOf : Tables → List ℕ
 startsOf t = map (λ (p : ℕ). length (keysTo t p)) (upto (squares (shapeOf t) + 1))
 
 -- ---- rosters
-
-abbrev pub bit : Bool → ℕ
-bit true = 1
-bit false = 0
 
 abbrev pub rostersOf : Tables → List ℕ
 rostersOf t = map (λ (i : ℕ). bit (rosterHas t (i / carRoom t) (i % carRoom t))) (upto (zoneRoom t * carRoom t))

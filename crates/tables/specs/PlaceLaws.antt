@@ -18,8 +18,8 @@ use Rattle.squares.specs.Squares.{squares, squaresOn}
 use Rattle.squares.specs.Leaves.{Positive, Below, OnLevel}
 use Rattle.squares.specs.PowerLaws.{four-pos}
 use Rattle.squares.specs.ShapeLaws.{blocks-small}
-use Rattle.squares.specs.SquareLaws.{squaresTo, count-to}
-use Rattle.tables.specs.Derived.{before, place, levelAt, numberAt}
+use Rattle.squares.specs.SquareLaws.{squaresTo, count-to, thrice}
+use Rattle.tables.specs.Derived.{before, place, parentOf, levelAt, numberAt}
 
 -- one level more
 pub before-more : (s : Shape) (i : ℕ) → before s (suc i) ≡ before s i + squaresOn s i
@@ -44,6 +44,13 @@ before-mono s i j h = let e : j ≡ i + (j - i) = omega arith in rw e (go (j - i
 -- a square's place is below the next level's first, and below the town's count
 pub place-below : (s : Shape) (i n : ℕ) → i ≤ s .k → n < squaresOn s i → place s i n < squares s
 place-below s i n h g = omega (arith, before-more s i, before-mono s (suc i) (suc (s .k)) (omega arith), before-all s)
+
+-- one level up, where the number is a quarter
+pub place-parent : (s : Shape) (i n : ℕ) → parentOf s (place s (suc i) n) ≡ place s i (n / 4)
+unfolding before
+place-parent s i n =
+    let q : 3 * before s i + s .P * s .Q ≡ squaresOn s i = ap (λ (m : ℕ). 3 * m + s .P * s .Q) (count-to s i) ∙ thrice s i in
+    omega (arith, before-more s i)
 
 -- the level and the number of a square's place are the square's
 pub level-place : (s : Shape) (i n : ℕ) → i ≤ s .k → n < squaresOn s i → levelAt s (place s i n) ≡ i

@@ -8,17 +8,17 @@ use native.Mathlib.Nat.{add-zero, zero-add, mul-le-mul, mul-le-mul-right, suc-mu
 use native.Mathlib.Numerals.{add-one}
 use lib.Arith.{digits-lt, digits-div, digits-mod}
 use lib.Dec.{ltb}
-use lib.ListN.{length, getD, take, drop, set, replicate, length-replicate, drop-of-length-le}
-use lib.Seq.{sets, sets-eq, drop-drop, drop-cons, set-at, append-snoc}
+use lib.ListN.{length, getD, take, drop, set, replicate, length-replicate, length-map, drop-of-length-le}
+use lib.Seq.{sets, sets-eq, drop-drop, drop-cons, set-at, append-snoc, ext-getD}
 use borrow.Rule.Slice.PartMut.{putMid}
 use borrow.Author.Tests.{lt-ltb, le-ltb}
 use Rattle.order.specs.Order.{span, upto, keep}
+use Rattle.order.specs.Sums.{bit}
 use Rattle.order.specs.Buffer.{Wrote}
 use Rattle.order.specs.BufferLaws.{wrote-none, wrote-more}
-use Rattle.order.specs.KeepLaws.{span-add, keep-append, keep-ext, span→}
+use Rattle.order.specs.KeepLaws.{span-add, keep-append, keep-ext, span→, length-span}
 use Rattle.tables.specs.Tables.{Tables, zoneRoom, carRoom, rosterHas}
 use Rattle.tables.specs.Check.{Sized}
-use Rattle.tables.specs.Derived.{bit}
 use Rattle.tables.specs.Sound.{Sound}
 use Rattle.tables.specs.Rows.{marked, row, Adds, RowThere}
 
@@ -90,6 +90,13 @@ unfolding span
 map-span f d lo zero i h = absurd (omega arith)
 map-span f d lo (suc n) zero h = ap f (sym (add-zero lo))
 map-span f d lo (suc n) (suc i) h = map-span f d (suc lo) n i (omega arith) ∙ ap f (omega arith)
+
+-- a list is a mapped row by its numbers
+pub mapped : (l : List ℕ) (f : ℕ → ℕ) (n : ℕ) → length l ≡ n → ((i : ℕ) → i < n → getD l i 0 ≡ f i) → l ≡ map f (upto n)
+mapped l f n e h = ext-getD 0 l (map f (upto n)) (e ∙ sym (length-map (upto n) f ∙ length-span 0 n)) (λ i g. h i (omega arith) ∙ ap f (sym (zero-add i)) ∙ sym (map-span f 0 0 n i (omega arith)))
+
+pub mapped-at : (l : List ℕ) (f : ℕ → ℕ) (n i : ℕ) → l ≡ map f (upto n) → i < n → getD l i 0 ≡ f i
+mapped-at l f n i e h = ap (λ (m : List ℕ). getD m i 0) e ∙ map-span f 0 0 n i h ∙ ap f (zero-add i)
 
 marked-bit : (b : Bool) → ltb 0 (bit b) ≡ b
 marked-bit true = refl

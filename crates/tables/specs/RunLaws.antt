@@ -1,11 +1,11 @@
 -- Laws of a square's run of entries: where it starts, what stands in it, and which levels of a cell have a zone.
-use Prim.Native.Nat.{ℕ, zero, suc, _+_, _-_, _*_, _%_, _<_, _≤_}
+use Prim.Native.Nat.{ℕ, _+_, _-_, _*_, _%_, _<_, _≤_}
 use mathlib.Core.Path.{_≡_, refl, ap, ap₂, sym, _∙_}
 use mathlib.Core.Bool.{Bool, true, false, _&&_}
 use mathlib.Core.Logic.{⊎-elim}
-use mathlib.Core.List.{List, _++_, append-assoc, map}
+use mathlib.Core.List.{List, _++_, append-assoc}
 use native.Mathlib.Omega.{arith}
-use native.Mathlib.Nat.{add-zero, zero-add, add-mul}
+use native.Mathlib.Nat.{zero-add, add-mul}
 use lib.Arith.{digits-div, digits-mod}
 use lib.ListN.{length, getD, take, drop, replicate, length-append, List·getD-eq-default}
 use lib.Seq.{take-at, drop-at}
@@ -23,13 +23,7 @@ use Rattle.tables.specs.Check.{Sized}
 use Rattle.tables.specs.Derived.{place, on, keysTo, used, free}
 use Rattle.tables.specs.Sound.{Sound}
 use Rattle.tables.specs.PlaceLaws.{level-place, number-place}
-
--- what stands at i in a function's values from lo on
-pub getD-span : (f : ℕ → ℕ) (lo n i : ℕ) → i < n → getD (map f (span lo n)) i 0 ≡ f (lo + i)
-unfolding span
-getD-span f lo zero i h = absurd (omega arith)
-getD-span f lo (suc n) zero h = ap f (sym (add-zero lo))
-getD-span f lo (suc n) (suc i) h = getD-span f (suc lo) n i (omega arith) ∙ ap f (omega arith)
+use Rattle.tables.specs.RowLaws.{mapped-at}
 
 -- the keys of the square at place p
 abbrev pub keysAt : Tables → ℕ → List ℕ
@@ -50,7 +44,7 @@ starts-rise t p = rw (keys-more t p, length-append (keysTo t p) (keysAt t p)) (o
 
 module _ {t : Tables} (sound : Sound t) where
   pub start-at : (p : ℕ) → p ≤ squares (shapeOf t) → getD (t .starts) p 0 ≡ length (keysTo t p)
-  start-at p h = ap (λ (l : List ℕ). getD l p 0) (sound .starts) ∙ getD-span (λ (q : ℕ). length (keysTo t q)) 0 (squares (shapeOf t) + 1) p (omega arith) ∙ ap (λ (q : ℕ). length (keysTo t q)) (zero-add p)
+  start-at p h = mapped-at (t .starts) (λ (q : ℕ). length (keysTo t q)) (squares (shapeOf t) + 1) p (sound .starts) (omega arith)
 
   -- the entries are the keys before a place, its own, and others
   split : (p : ℕ) → p < squares (shapeOf t) → (rest : List ℕ) × (t .entries ≡ keysTo t p ++ (keysAt t p ++ rest))

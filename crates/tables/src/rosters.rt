@@ -1,10 +1,7 @@
-// A row of the rosters.
-use crate::fill::fill_bytes;
+// A row of the rosters, read.
 ghost use Prim.Native.Nat.{_+_, _*_, _≤_};
-ghost use mathlib.Core.Path.{_≡_};
 ghost use Rattle.order.specs.Buffer.{Wrote};
 ghost use Rattle.tables.specs.Rows.{row, Adds, RowThere};
-ghost use Rattle.tables.specs.Edits.{rowCleared, stamped};
 
 // Stores car c where its byte is not 0. Answers the next place.
 fn add_marked(byte: u8, c: u32, out: &mut [u32], next: usize) -> usize
@@ -33,34 +30,4 @@ pub fn list_cars(rosters: &[u8], z: usize, many: u32, out: &mut [u32]) -> usize
         c += 1;
     }
     next
-}
-
-// Sets a zone's row of so many bytes to 0.
-pub fn clear_row(rosters: &mut [u8], z: usize, many: u32)
-    requires { ⌜ RowThere (now rosters) z many ⌝ }
-    ensures { λ _. ⌜ now (rosters .exit) ≡ rowCleared (now (rosters .entry)) z many ⌝ }
-{
-    let from = z * many as usize;
-    let end = from + many as usize;
-    fill_bytes(&mut rosters[from..end], 0);
-}
-
-// Where car c's byte stands in zone z's row, rows of so many bytes.
-fn byte_at(z: u32, many: u32, c: u32) -> usize
-    requires { ⌜ many ≤ 1024 ⌝ }
-    ensures { λ r. ⌜ r ≡ z * many + c ⌝ }
-{
-    z as usize * many as usize + c as usize
-}
-
-// Sets car c's byte in the row of each zone of a list, rows of so many bytes.
-pub fn stamp_rows(rosters: &mut [u8], zones: &[u32], many: u32, c: u32, v: u8)
-    requires { ⌜ many ≤ 1024 ⌝ }
-    ensures { λ _. ⌜ now (rosters .exit) ≡ stamped (now (rosters .entry)) (now (zones .entry)) many c v ⌝ }
-{
-    let mut i = 0;
-    while i < zones.len() {
-        order::store_byte(rosters, byte_at(zones[i], many, c), v);
-        i += 1;
-    }
 }

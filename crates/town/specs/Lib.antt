@@ -1,11 +1,1 @@
-pub mod Promises
-pub mod ReadLaws
-pub mod OpenLaws
-pub mod JudgeLaws
 pub mod Unique
-pub mod Looks
-pub mod LookLaws
-pub mod SearchLaws
-pub mod RemoveLaws
-pub mod ReportLaws
-pub mod AddLaws

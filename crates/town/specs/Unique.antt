@@ -9,16 +9,16 @@ use Rattle.squares.specs.PromiseLaws.{by-refusal}
 use Rattle.position.specs.declared.Position.{Position}
 use Rattle.tables.specs.Tables.{Tables}
 use Rattle.tables.specs.Sound.{Sound}
-use Rattle.town.specs.declared.answers.Opened.{Opened}
-use Rattle.town.specs.declared.answers.Traced.{Traced}
-use Rattle.town.specs.declared.answers.Searched.{Searched}
-use Rattle.town.specs.declared.answers.Listed.{Listed}
-use Rattle.town.specs.declared.answers.Removed.{Removed}
-use Rattle.town.specs.declared.answers.Reported.{Reported}
-use Rattle.town.specs.declared.answers.Departed.{Departed}
-use Rattle.town.specs.declared.answers.Added.{Added}
-use Rattle.town.specs.AddLaws.{bars-none}
-use Rattle.town.specs.Promises.{Opens, openRefusal, Traces, traceRefusal, Searches, searchRefusal, Lists, listRefusal, Removes, removeRefusal, Reports, reportRefusal, Leaves, leaveRefusal, Adds, addBars, addRefusal}
+use Rattle.promises.specs.declared.answers.Opened.{Opened}
+use Rattle.promises.specs.declared.answers.Traced.{Traced}
+use Rattle.promises.specs.declared.answers.Searched.{Searched}
+use Rattle.promises.specs.declared.answers.Listed.{Listed}
+use Rattle.promises.specs.declared.answers.Removed.{Removed}
+use Rattle.promises.specs.declared.answers.Reported.{Reported}
+use Rattle.promises.specs.declared.answers.Departed.{Departed}
+use Rattle.promises.specs.declared.answers.Added.{Added}
+use Rattle.zoning.specs.AddLaws.{bars-none}
+use Rattle.promises.specs.Promises.{Opens, openRefusal, Traces, traceRefusal, Searches, searchRefusal, Lists, listRefusal, Removes, removeRefusal, Reports, reportRefusal, Leaves, leaveRefusal, Adds, addBars, addRefusal}
 
 pub opens-unique : {s : Shape} {Z C E : ℕ} {t u v : Tables} {x y : Opened} → Opens s Z C E t u x → Opens s Z C E t v y → (x ≡ y) × (u ≡ v)
 opens-unique {s} {Z} {C} {E} {t} p q = by-refusal (openRefusal s Z C E t) (λ e. (p .done e .0 ∙ sym (q .done e .0), p .done e .1 ∙ sym (q .done e .1))) (λ f. (p .refused f .0 ∙ sym (q .refused f .0), p .refused f .1 ∙ sym (q .refused f .1)))

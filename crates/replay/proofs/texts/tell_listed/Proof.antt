@@ -1,7 +1,7 @@
 use mathlib.Core.Path.{ap}
 use native.Mathlib.Omega.{arith}
 use Rattle.order.specs.BufferLaws.{count-front}
-use Rattle.town.specs.declared.answers.Listed.{Listed}
+use Rattle.promises.specs.declared.answers.Listed.{Listed}
 use Rattle.replay.specs.PartLaws.{answers-as}
 use Rattle.replay.specs.Texts.{listedParts, listedCount}
 use borrow.Author.Needs.{needs}

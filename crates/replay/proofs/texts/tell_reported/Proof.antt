@@ -1,7 +1,7 @@
 use mathlib.Core.Path.{ap}
 use native.Mathlib.Omega.{arith}
 use Rattle.order.specs.BufferLaws.{count-front}
-use Rattle.town.specs.declared.answers.Reported.{Reported}
+use Rattle.promises.specs.declared.answers.Reported.{Reported}
 use Rattle.replay.specs.PartLaws.{answers-as}
 use Rattle.replay.specs.Texts.{reportedParts, reportedCame, reportedGone}
 use borrow.Author.Needs.{needs}

@@ -1,7 +1,7 @@
 use mathlib.Core.Path.{ap}
 use native.Mathlib.Omega.{arith}
 use Rattle.order.specs.BufferLaws.{count-front}
-use Rattle.town.specs.declared.answers.Searched.{Searched}
+use Rattle.promises.specs.declared.answers.Searched.{Searched}
 use Rattle.replay.specs.PartLaws.{answers-as}
 use Rattle.replay.specs.Texts.{searchedParts, searchedCount}
 use borrow.Author.Needs.{needs}

@@ -1,18 +1,69 @@
-use mathlib.Core.Path.{_∙_}
-use native.Mathlib.Nat.{zero-add}
-use Rattle.squares.specs.CutLaws.{count-few}
+use Prim.Native.Nat.{suc, _-_, _*_, _≤_}
+use Rattle.squares.specs.CountLaws.{CountTurn, count-begins, count-room, count-turns, count-ends}
 use borrow.Author.Needs.{needs}
 use Rattle.squares.proofs.cut.cut_count.Statement.{statement}
 use Rattle.squares.proofs.cut.cut_count.Tie as tie
 
-slice-aggregate-cut-levels : tie.Need-slice-aggregate-cut-levels
-slice-aggregate-cut-levels c = search needs
+abbrev Inv-loop : tie.InvT-loop
+Inv-loop s r total₀ above₀ level₀ total above level = CountTurn s r total above level
 
-cut-levels-requires : tie.Need-cut-levels-requires
-cut-levels-requires c κs = search needs
+abbrev μ-loop : tie.MeasureT-loop
+μ-loop s r total₀ above₀ level₀ total above level = suc (s .k) - level
 
-returns : tie.Need-returns
-returns c = count-few _ _ _ (c .before .before .before .pre .shape) (c .before .cut-levels .ensures .wrote .next ∙ zero-add _)
+loop-holds : tie.Need-loop-holds Inv-loop μ-loop
+loop-holds c = count-begins (c .pre)
+
+wholes-requires : tie.Need-wholes-requires Inv-loop μ-loop
+wholes-requires c κs = search needs
+
+wholes-requires-2 : tie.Need-wholes-requires-2 Inv-loop μ-loop
+wholes-requires-2 c κs = search needs
+
+room : (c : tie.After-wholes2 Inv-loop μ-loop) → (c .before .before .wholes .result * c .wholes2 .result ≤ 65536) × (4 * c .before .before .before .before .before .before .loop .above ≤ c .before .before .wholes .result * c .wholes2 .result)
+room c = count-room (c .before .before .before .before .before .before .before .pre) (c .before .before .before .before .before .before .loop .inv) (c .before .before .before .before .if1 .taken) (c .before .before .wholes .ensures) (c .wholes2 .ensures)
+
+mul-inside : tie.Need-mul-inside Inv-loop μ-loop
+mul-inside c = let h = room c in search needs
+
+mul-total : tie.Need-mul-total Inv-loop μ-loop
+mul-total c = let h = room c in search needs
+
+sub-total : tie.Need-sub-total Inv-loop μ-loop
+sub-total c = let h = room c in search needs
+
+add-total : tie.Need-add-total Inv-loop μ-loop
+add-total c = let h = room c in search needs
+
+add-level : tie.Need-add-level Inv-loop μ-loop
+add-level c = search needs
+
+loop-less : tie.Need-loop-less Inv-loop μ-loop
+loop-less c = search needs
+
+loop-again : tie.Need-loop-again Inv-loop μ-loop
+loop-again c = count-turns (c .before .before .before .before .before .before .before .pre) (c .before .before .before .before .before .before .loop .inv) (c .before .before .before .before .if1 .taken) (c .before .before .wholes .ensures) (c .wholes2 .ensures)
+
+cast-result : tie.Need-cast-result Inv-loop μ-loop
+cast-result c = search needs
+
+returns : tie.Need-returns Inv-loop μ-loop
+returns c = count-ends (c .before .before .before .pre) (c .before .before .loop .inv) (c .if1 .left)
 
 pub cut-count-spec : {M : Type 1} → statement M
-cut-count-spec = tie.close (tie.spec slice-aggregate-cut-levels cut-levels-requires returns)
+cut-count-spec =
+    tie.close
+    (tie.spec
+    Inv-loop
+    μ-loop
+    loop-holds
+    wholes-requires
+    wholes-requires-2
+    mul-inside
+    mul-total
+    sub-total
+    add-total
+    add-level
+    loop-less
+    loop-again
+    cast-result
+    returns)

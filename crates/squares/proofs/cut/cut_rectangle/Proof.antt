@@ -1,6 +1,6 @@
-use Rattle.order.specs.BufferLaws.{count-front}
 use mathlib.Core.Bool.{true}
 use mathlib.Core.Path.{_≡_, sym, _∙_}
+use native.Mathlib.Omega.{arith}
 use borrow.Author.Tests.{not-true, not-false}
 use Rattle.squares.specs.Shape.{allowed, fits}
 use Rattle.squares.specs.ShapeLaws.{allowed→, fits→}
@@ -27,29 +27,20 @@ fits-requires c κs = allowed→ _ (is-allowed c)
 returns-2 : tie.Need-returns-2
 returns-2 c = cuts-refused _ _ _ _ (cut-9 _ _ _ (is-allowed (c .before .before)) (sym (c .before .fits2 .ensures) ∙ not-true _ (c .if2 .taken)))
 
-slice-relend-prefix-cut-levels : tie.Need-slice-relend-prefix-cut-levels
-slice-relend-prefix-cut-levels c = search needs
+cut-count-requires : tie.Need-cut-count-requires
+cut-count-requires c κs = record { shape = allowed→ _ (is-allowed (c .before .before)); rect = fits→ _ _ (is-fitting c) }
 
-slice-aggregate-cut-levels : tie.Need-slice-aggregate-cut-levels
-slice-aggregate-cut-levels c = search (needs, count-front)
+returns-3 : tie.Need-returns-3
+returns-3 c = cuts-short _ _ _ _ (is-allowed (c .before .before .before .before)) (is-fitting (c .before .before)) (c .before .cut-count .ensures) (omega arith)
 
 cut-levels-requires : tie.Need-cut-levels-requires
-cut-levels-requires c κs = record { shape = allowed→ _ (is-allowed (c .before .before .before)); rect = fits→ _ _ (is-fitting (c .before)) }
+cut-levels-requires c κs = record { shape = allowed→ _ (is-allowed (c .before .before .before .before .before)); rect = fits→ _ _ (is-fitting (c .before .before .before)) }
 
 same-length : tie.Need-same-length
 same-length c = search needs
 
-returns-3 : tie.Need-returns-3
-returns-3 c = cuts-short _ _ _ (c .before .before .before .cut-levels .last .1 .1 .0) _ (c .before .before .before .cut-levels .kept .1 .1 .0) (is-allowed (c .before .before .before .before .before .before .before)) (is-fitting (c .before .before .before .before .before)) (c .before .before .before .cut-levels .ensures .wrote .next) (c .if3 .taken)
-
-cut-levels-requires-2 : tie.Need-cut-levels-requires-2
-cut-levels-requires-2 c κs = record { shape = allowed→ _ (is-allowed (c .before .before .before .before .before .before .before .before)); rect = fits→ _ _ (is-fitting (c .before .before .before .before .before .before)) }
-
-same-length-2 : tie.Need-same-length-2
-same-length-2 c = search needs
-
 returns-4 : tie.Need-returns-4
-returns-4 c = cuts-listed _ _ _ (c .before .before .before .before .before .before .before .cut-levels .last .1 .1 .0) _ (c .before .before .before .before .before .before .before .cut-levels .kept .1 .1 .0) (is-allowed (c .before .before .before .before .before .before .before .before .before .before .before)) (is-fitting (c .before .before .before .before .before .before .before .before .before)) (c .before .before .before .before .before .before .before .cut-levels .ensures .wrote .next) _ _ (c .before .before .before .before .if3 .left) (c .before .before .cut-levels2 .ensures .wrote)
+returns-4 c = cuts-listed _ _ _ _ (is-allowed (c .before .before .before .before .before .before .before .before)) (is-fitting (c .before .before .before .before .before .before)) (c .before .before .before .before .before .cut-count .ensures) _ _ (omega arith) (c .before .before .cut-levels .ensures .wrote)
 
 pub cut-rectangle-spec : {M : Type 1} → statement M
 cut-rectangle-spec =
@@ -59,11 +50,8 @@ cut-rectangle-spec =
     returns
     fits-requires
     returns-2
-    slice-relend-prefix-cut-levels
-    slice-aggregate-cut-levels
+    cut-count-requires
+    returns-3
     cut-levels-requires
     same-length
-    returns-3
-    cut-levels-requires-2
-    same-length-2
     returns-4)

@@ -1,5 +1,5 @@
 use Prim.Native.Nat.{_+_, _*_, _<_}
-use Rattle.squares.specs.ShapeLaws.{number-is, number-small}
+use Rattle.squares.specs.ShapeLaws.{tops, number-is, number-small}
 use borrow.Author.Needs.{needs}
 use Rattle.squares.proofs.shape.Shape.number.Statement.{statement}
 use Rattle.squares.proofs.shape.Shape.number.Tie as tie
@@ -23,7 +23,7 @@ div-interleaved-2 : tie.Need-div-interleaved-2
 div-interleaved-2 c = search needs
 
 interleaved-requires : tie.Need-interleaved-requires
-interleaved-requires c κs = search needs
+interleaved-requires c κs = tops (c .before .before .pre .1) (c .before .side .ensures) (c .side-on .ensures) _ _
 
 four-to-requires : tie.Need-four-to-requires
 four-to-requires c κs = search needs

@@ -1,0 +1,47 @@
+use native.Mathlib.Omega.{arith}
+use Rattle.edits.specs.DropLaws.{drop-fills}
+use borrow.Author.Needs.{needs}
+use borrow.Author.Needs.{needs}
+use Rattle.edits.proofs.entries.drop_keys.Statement.{statement}
+use Rattle.edits.proofs.entries.drop_keys.Tie as tie
+
+pack-keys-requires : tie.Need-pack-keys-requires
+pack-keys-requires c κs = search needs
+
+mul-fill-words : tie.Need-mul-fill-words
+mul-fill-words c = search needs
+
+sub-fill-words : tie.Need-sub-fill-words
+sub-fill-words c = search needs
+
+part-fill-words-start : tie.Need-part-fill-words-start
+part-fill-words-start c = search needs
+
+part-fill-words-end : tie.Need-part-fill-words-end
+part-fill-words-end c = search needs
+
+fill-words-requires : tie.Need-fill-words-requires
+fill-words-requires c κs = search needs
+
+same-length : tie.Need-same-length
+same-length c = search needs
+
+same-length-2 : tie.Need-same-length-2
+same-length-2 c = search needs
+
+returns : tie.Need-returns
+returns c = let k = c .before .before .before .before .before .before .before .before .pack-keys in drop-fills (k .ensures) (omega arith) _ (c .before .before .fill-words .ensures)
+
+pub drop-keys-spec : {M : Type 1} → statement M
+drop-keys-spec =
+    tie.close
+    (tie.spec
+    pack-keys-requires
+    mul-fill-words
+    sub-fill-words
+    part-fill-words-start
+    part-fill-words-end
+    fill-words-requires
+    same-length
+    same-length-2
+    returns)

@@ -1,0 +1,41 @@
+use Rattle.edits.specs.InsideLaws.{row-marked}
+use borrow.Author.Needs.{needs}
+use Rattle.edits.proofs.inside.fill_row.Statement.{statement}
+use Rattle.edits.proofs.inside.fill_row.Tie as tie
+
+mul-from : tie.Need-mul-from
+mul-from c = search needs
+
+add-end : tie.Need-add-end
+add-end c = search needs
+
+sub-mark-cars : tie.Need-sub-mark-cars
+sub-mark-cars c = search needs
+
+part-mark-cars-start : tie.Need-part-mark-cars-start
+part-mark-cars-start c = search needs
+
+part-mark-cars-end : tie.Need-part-mark-cars-end
+part-mark-cars-end c = search needs
+
+mark-cars-requires : tie.Need-mark-cars-requires
+mark-cars-requires c κs = search needs
+
+same-length : tie.Need-same-length
+same-length c = search needs
+
+returns : tie.Need-returns
+returns c = row-marked (c .before .before .before .before .before .before .before .pre .1 .0) _ (c .before .before .mark-cars .ensures)
+
+pub fill-row-spec : {M : Type 1} → statement M
+fill-row-spec =
+    tie.close
+    (tie.spec
+    mul-from
+    add-end
+    sub-mark-cars
+    part-mark-cars-start
+    part-mark-cars-end
+    mark-cars-requires
+    same-length
+    returns)

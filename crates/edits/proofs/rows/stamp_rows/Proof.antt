@@ -1,0 +1,60 @@
+use Prim.Native.Nat.{_-_}
+use lib.ListN.{length}
+use Rattle.edits.specs.StampLaws.{Stamping, stamp-begins, stamp-turns, stamp-ends}
+use borrow.Author.Needs.{needs}
+use Rattle.edits.proofs.rows.stamp_rows.Statement.{statement}
+use Rattle.edits.proofs.rows.stamp_rows.Tie as tie
+use Rattle.edits.proofs.rows.byte_at.Reads as byte-at-reads
+
+abbrev Inv-loop : tie.InvT-loop
+Inv-loop rosters₀ zones many c v i₀ rosters i = Stamping rosters₀ zones many c v rosters i
+
+abbrev μ-loop : tie.MeasureT-loop
+μ-loop rosters₀ zones many c v i₀ rosters i = length zones - i
+
+loop-holds : tie.Need-loop-holds Inv-loop μ-loop
+loop-holds c = stamp-begins _ _ _ _ _
+
+mul-byte-at : tie.Need-mul-byte-at Inv-loop μ-loop
+mul-byte-at c = search needs
+
+shared-slice-read-byte-at : tie.Need-shared-slice-read-byte-at Inv-loop μ-loop
+shared-slice-read-byte-at c = search needs
+
+byte-at-requires : tie.Need-byte-at-requires Inv-loop μ-loop
+byte-at-requires c κs = search needs
+
+store-byte-requires : tie.Need-store-byte-requires Inv-loop μ-loop
+store-byte-requires c κs = search needs
+
+add-i : tie.Need-add-i Inv-loop μ-loop
+add-i c = search needs
+
+loop-less : tie.Need-loop-less Inv-loop μ-loop
+loop-less c = search needs
+
+loop-again : tie.Need-loop-again Inv-loop μ-loop
+loop-again c = stamp-turns _ _ _ _ _ (c .before .before .before .before .before .before .before .loop .inv) (c .before .before .before .before .before .before .loop-test .taken) (c .before .before .before .byte-at .ensures) (c .before .before .store-byte .ensures)
+
+same-length : tie.Need-same-length Inv-loop μ-loop
+same-length c = c .before .loop .inv .long
+
+returns : tie.Need-returns Inv-loop μ-loop
+returns c = stamp-ends _ _ _ _ _ (c .before .loop .inv) (c .loop-test .left)
+
+pub stamp-rows-spec : {M : Type 1} → statement M
+stamp-rows-spec =
+    tie.close
+    (tie.spec
+    Inv-loop
+    μ-loop
+    loop-holds
+    mul-byte-at
+    shared-slice-read-byte-at
+    byte-at-requires
+    store-byte-requires
+    add-i
+    loop-less
+    loop-again
+    same-length
+    returns)

@@ -1,0 +1,73 @@
+use Prim.Native.Nat.{ℕ, _-_}
+use native.Mathlib.Omega.{arith}
+use lib.ListN.{take}
+use lib.Seq.{length-take-le}
+use Rattle.edits.specs.ShiftLaws.{Moving, move-begins, move-turns, move-ends, key-there, key-few, raise-ends}
+use borrow.Author.Needs.{needs}
+use Rattle.edits.proofs.shift.raise_starts.Statement.{statement}
+use Rattle.edits.proofs.shift.raise_starts.Tie as tie
+
+abbrev Inv-loop : tie.InvT-loop
+Inv-loop starts₀ n many p₀ j₀ starts p j = Moving (λ (g : ℕ). g) (take n starts₀) starts₀ starts n p j
+
+abbrev μ-loop : tie.MeasureT-loop
+μ-loop starts₀ n many p₀ j₀ starts p j = n - j
+
+loop-holds : tie.Need-loop-holds Inv-loop μ-loop
+loop-holds c = move-begins _ _ _ _ (c .before .pre .0)
+
+mul-place-after : tie.Need-mul-place-after Inv-loop μ-loop
+mul-place-after c = search needs
+
+slice-read-place-after : tie.Need-slice-read-place-after Inv-loop μ-loop
+slice-read-place-after c = omega (arith, c .before .before .loop .inv .long, c .before .before .before .before .pre .0)
+
+place-after-requires : tie.Need-place-after-requires Inv-loop μ-loop
+place-after-requires c κs = search needs
+
+cast-shift-to : tie.Need-cast-shift-to Inv-loop μ-loop
+cast-shift-to c = search needs
+
+shift-to-requires : tie.Need-shift-to-requires Inv-loop μ-loop
+shift-to-requires c κs = (omega (arith, c .before .before .before .before .loop .inv .most, c .before .before .before .before .loop .inv .long), omega (arith, c .before .place-after .ensures .most, c .before .before .before .before .loop .inv .long))
+
+add-j : tie.Need-add-j Inv-loop μ-loop
+add-j c = search needs
+
+loop-less : tie.Need-loop-less Inv-loop μ-loop
+loop-less c = search needs
+
+loop-again : tie.Need-loop-again Inv-loop μ-loop
+loop-again c = move-turns (c .before .before .before .before .before .before .before .loop .inv) (omega (arith, length-take-le (c .before .before .before .before .before .before .before .before .before .args .n) (c .before .before .before .before .before .before .before .before .before .args .starts .now) (c .before .before .before .before .before .before .before .before .before .pre .0))) (rw (key-there (c .before .before .before .before .before .before .before .loop .inv) (omega arith)) at (c .before .before .before .before .place-after .ensures)) (c .before .before .shift-to .ensures)
+
+cast-shift-to-2 : tie.Need-cast-shift-to-2 Inv-loop μ-loop
+cast-shift-to-2 c = search (needs, key-few (c .before .before .loop .inv))
+
+shift-to-requires-2 : tie.Need-shift-to-requires-2 Inv-loop μ-loop
+shift-to-requires-2 c κs = (omega (arith, c .before .before .loop .inv .most, c .before .before .loop .inv .long), omega (arith, c .before .before .loop .inv .long))
+
+same-length : tie.Need-same-length Inv-loop μ-loop
+same-length c = search needs
+
+returns : tie.Need-returns Inv-loop μ-loop
+returns c = raise-ends (move-ends (c .before .before .before .before .before .loop .inv) (omega (arith, length-take-le (c .before .before .before .before .before .before .before .args .n) (c .before .before .before .before .before .before .before .args .starts .now) (c .before .before .before .before .before .before .before .pre .0))) (c .before .before .shift-to2 .ensures))
+
+pub raise-starts-spec : {M : Type 1} → statement M
+raise-starts-spec =
+    tie.close
+    (tie.spec
+    Inv-loop
+    μ-loop
+    loop-holds
+    mul-place-after
+    slice-read-place-after
+    place-after-requires
+    cast-shift-to
+    shift-to-requires
+    add-j
+    loop-less
+    loop-again
+    cast-shift-to-2
+    shift-to-requires-2
+    same-length
+    returns)

@@ -1,0 +1,125 @@
+-- Laws of the rosters of tables with other zones: only the changed zone's row differs.
+use Prim.Native.Nat.{ℕ, _+_, _-_, _*_, _/_, _%_, _<_, _≤_}
+use mathlib.Core.Path.{_≡_, refl, ap, sym, _∙_}
+use mathlib.Core.Logic.{_⊎_, inl, inr, ⊎-elim}
+use mathlib.Core.Bool.{Bool, false, _&&_, and-false}
+use mathlib.Core.List.{List, [], _∷_, map}
+use native.Mathlib.Omega.{arith}
+use native.Mathlib.Nat.{zero-add, mul-le-mul, suc-mul, div-add-mod', mod-lt, div-lt-iff-lt-mul, le-refl}
+use lib.Arith.{digits-lt, digits-div, digits-mod}
+use lib.Dec.{ltb}
+use lib.ListN.{length, getD, replicate, length-map, length-replicate}
+use lib.Seq.{sets, length-sets, ext-getD}
+use borrow.Author.Tests.{lt-ltb}
+use borrow.Rule.Slice.PartMut.{midOf, putMid, mid-len}
+use Rattle.order.specs.Order.{upto}
+use Rattle.order.specs.Sums.{bit}
+use Rattle.order.specs.TestLaws.{lt-or-eq-or-gt}
+use Rattle.order.specs.KeepLaws.{length-span}
+use Rattle.squares.specs.declared.shape.Rect.{Rect}
+use Rattle.squares.specs.Cut.{holds}
+use Rattle.position.specs.Answer.{columnOf, rowOf}
+use Rattle.tables.specs.Tables.{Tables, shapeOf, zoneRoom, carRoom, rectIn, rectOf, stands, zoneHolds, placedIn, placed, spotOf, rosterHas}
+use Rattle.tables.specs.Check.{Sized}
+use Rattle.tables.specs.Derived.{rostersOf}
+use Rattle.tables.specs.Steps.{zoned, withZone, withoutZone}
+use Rattle.tables.specs.Rows.{RowThere}
+use Rattle.edits.specs.Edits.{rowCleared}
+use Rattle.tables.specs.RowLaws.{map-span, part-stored}
+use Rattle.edits.specs.ZoneLaws.{sets-apart, sets-there, rect-with, rect-with-other, rect-without-other, stands-without}
+
+-- ---- a part lent and written
+
+-- a zone's row filled with 0
+pub row-filled : {rosters : List ℕ} {z many : ℕ} → RowThere rosters z many → (f : List ℕ) → f ≡ replicate (length (midOf (z * many) (z * many + many - z * many) rosters)) 0 → putMid (z * many) (z * many + many - z * many) rosters f ≡ rowCleared rosters z many
+row-filled {rosters} {z} {many} h f e =
+    let n : length (midOf (z * many) (z * many + many - z * many) rosters) ≡ z * many + many - z * many = mid-len (z * many) (z * many + many) rosters (h .there) in
+    let d : z * many + many - z * many ≡ many = omega arith in
+    let q : f ≡ replicate many 0 = e ∙ ap (λ (m : ℕ). replicate m 0) (n ∙ d) in
+    part-stored rosters f (z * many) (z * many + many) (omega arith) (h .there) (ap length e ∙ length-replicate _ 0 ∙ n) ∙ ap (sets rosters (z * many)) q
+
+-- ---- who is on a roster
+
+-- a car is in the zone with a rectangle
+abbrev hasBy : Tables → ℕ → Rect → Bool
+hasBy t c r = placedIn (t .cars) c && (ltb 0 (r .w) && holds r (columnOf (shapeOf t) (spotOf t c)) (rowOf (shapeOf t) (spotOf t c)))
+
+has-by : (t : Tables) (z c : ℕ) → rosterHas t z c ≡ hasBy t c (rectOf t z)
+unfolding rosterHas zoneHolds stands placed
+has-by t z c = refl
+
+module _ (t : Tables) (z c : ℕ) where
+  pub has-with-other : (r : Rect) (y : ℕ) → (y ≡ z → ⊥) → rosterHas (zoned t (withZone (t .zones) z r)) y c ≡ rosterHas t y c
+  has-with-other r y f = has-by (zoned t (withZone (t .zones) z r)) y c ∙ ap (hasBy t c) (rect-with-other (t .zones) z r y f) ∙ sym (has-by t y c)
+
+  -- a new zone's roster has the cars in its rectangle
+  pub has-with : (r : Rect) → 4 * z + 4 ≤ length (t .zones) → 0 < r .w → rosterHas (zoned t (withZone (t .zones) z r)) z c ≡ (placed t c && holds r (columnOf (shapeOf t) (spotOf t c)) (rowOf (shapeOf t) (spotOf t c)))
+  unfolding placed
+  has-with r h g = has-by (zoned t (withZone (t .zones) z r)) z c ∙ ap (hasBy t c) (rect-with (t .zones) z r h) ∙ rw (lt-ltb 0 (r .w) g)
+
+  pub has-without-other : (y : ℕ) → (y ≡ z → ⊥) → rosterHas (zoned t (withoutZone (t .zones) z)) y c ≡ rosterHas t y c
+  has-without-other y f = has-by (zoned t (withoutZone (t .zones) z)) y c ∙ ap (hasBy t c) (rect-without-other (t .zones) z y f) ∙ sym (has-by t y c)
+
+  -- no car is in a zone that stands no more
+  pub has-without : rosterHas (zoned t (withoutZone (t .zones) z)) z c ≡ false
+  has-without =
+      let inside = holds (rectIn (withoutZone (t .zones) z) z) (columnOf (shapeOf t) (spotOf t c)) (rowOf (shapeOf t) (spotOf t c)) in
+      has-by (zoned t (withoutZone (t .zones) z)) z c
+      ∙ ap (λ (b : Bool). placedIn (t .cars) c && (b && inside)) (stands-without (t .zones) z)
+      ∙ and-false (placedIn (t .cars) c)
+
+-- ---- the rosters
+
+-- zone z's row, as the records give it
+abbrev pub rosterRow : Tables → ℕ → List ℕ
+rosterRow t z = map (λ (c : ℕ). bit (rosterHas t z c)) (upto (carRoom t))
+
+pub byte-at : (t : Tables) (z c : ℕ) → z < zoneRoom t → c < carRoom t → getD (rostersOf t) (z * carRoom t + c) 0 ≡ bit (rosterHas t z c)
+byte-at t z c g l = map-span (λ (i : ℕ). bit (rosterHas t (i / carRoom t) (i % carRoom t))) 0 0 (zoneRoom t * carRoom t) (z * carRoom t + c) (digits-lt g l) ∙ rw (zero-add (z * carRoom t + c), digits-div z l, digits-mod z l)
+
+pub length-rosters : (t : Tables) → length (rostersOf t) ≡ zoneRoom t * carRoom t
+length-rosters t = length-map (upto (zoneRoom t * carRoom t)) (λ (i : ℕ). bit (rosterHas t (i / carRoom t) (i % carRoom t))) ∙ length-span 0 (zoneRoom t * carRoom t)
+
+length-row : (t : Tables) (z : ℕ) → length (rosterRow t z) ≡ carRoom t
+length-row t z = length-map (upto (carRoom t)) (λ (c : ℕ). bit (rosterHas t z c)) ∙ length-span 0 (carRoom t)
+
+-- other zones, of which only zone z differs
+module _ (t : Tables) (size : Sized t) (zones : List ℕ) (z : ℕ) (there : z < zoneRoom t) (same : (y c : ℕ) → (y ≡ z → ⊥) → rosterHas (zoned t zones) y c ≡ rosterHas t y c) where
+  within : z * carRoom t + length (rosterRow (zoned t zones) z) ≤ length (rostersOf t)
+  within = omega (arith, length-row (zoned t zones) z, length-rosters t, suc-mul z (carRoom t), mul-le-mul there (le-refl (carRoom t)))
+
+  own : (c : ℕ) → c < carRoom t → getD (rostersOf (zoned t zones)) (z * carRoom t + c) 0 ≡ getD (sets (rostersOf t) (z * carRoom t) (rosterRow (zoned t zones) z)) (z * carRoom t + c) 0
+  own c l =
+      byte-at (zoned t zones) z c there l
+      ∙ sym (sets-there (rosterRow (zoned t zones) z) (rostersOf t) (z * carRoom t) c (omega (arith, length-row (zoned t zones) z)) within ∙ map-span (λ (d : ℕ). bit (rosterHas (zoned t zones) z d)) 0 0 (carRoom t) c l ∙ ap (λ (d : ℕ). bit (rosterHas (zoned t zones) z d)) (zero-add c))
+
+  other : (y c : ℕ) → y < zoneRoom t → c < carRoom t → (y ≡ z → ⊥) → (y * carRoom t + c < z * carRoom t) ⊎ (z * carRoom t + length (rosterRow (zoned t zones) z) ≤ y * carRoom t + c) → getD (rostersOf (zoned t zones)) (y * carRoom t + c) 0 ≡ getD (sets (rostersOf t) (z * carRoom t) (rosterRow (zoned t zones) z)) (y * carRoom t + c) 0
+  other y c g l f p = byte-at (zoned t zones) y c g l ∙ ap bit (same y c f) ∙ sym (byte-at t y c g l) ∙ sym (sets-apart (rosterRow (zoned t zones) z) (rostersOf t) (z * carRoom t) (y * carRoom t + c) p)
+
+  byte : (y c : ℕ) → y < zoneRoom t → c < carRoom t → getD (rostersOf (zoned t zones)) (y * carRoom t + c) 0 ≡ getD (sets (rostersOf t) (z * carRoom t) (rosterRow (zoned t zones) z)) (y * carRoom t + c) 0
+  byte y c g l = ⊎-elim
+      (λ (h : y < z). other y c g l (λ (e : y ≡ z). omega arith) (inl (digits-lt h l)))
+      (⊎-elim
+      (λ (e : y ≡ z). rw e (own c l))
+      (λ (h : z < y). other y c g l (λ (e : y ≡ z). omega arith) (inr (omega (arith, length-row (zoned t zones) z, suc-mul z (carRoom t), mul-le-mul h (le-refl (carRoom t)))))))
+      (lt-or-eq-or-gt y z)
+
+  -- the rosters differ only in zone z's row
+  pub rosters-row : rostersOf (zoned t zones) ≡ sets (rostersOf t) (z * carRoom t) (rosterRow (zoned t zones) z)
+  rosters-row = ext-getD 0 (rostersOf (zoned t zones)) (sets (rostersOf t) (z * carRoom t) (rosterRow (zoned t zones) z))
+      (length-rosters (zoned t zones) ∙ sym (length-sets (rostersOf t) (z * carRoom t) (rosterRow (zoned t zones) z) ∙ length-rosters t))
+      (λ i h. rw (div-add-mod' i (carRoom t)) at (byte (i / carRoom t) (i % carRoom t) (div-lt-iff-lt-mul (size .room .cars-some) .1 (omega (arith, length-rosters (zoned t zones)))) (mod-lt i (size .room .cars-some))))
+
+-- a new zone's row is its cars
+pub rosters-with : (t : Tables) → Sized t → (z : ℕ) → z < zoneRoom t → (r : Rect) → rostersOf (zoned t (withZone (t .zones) z r)) ≡ sets (rostersOf t) (z * carRoom t) (rosterRow (zoned t (withZone (t .zones) z r)) z)
+rosters-with t size z h r = rosters-row t size (withZone (t .zones) z r) z h (λ y c f. has-with-other t z c r y f)
+
+-- without zone z its row is 0
+pub rosters-without : (t : Tables) → Sized t → (z : ℕ) → z < zoneRoom t → rostersOf (zoned t (withoutZone (t .zones) z)) ≡ rowCleared (rostersOf t) z (carRoom t)
+rosters-without t size z h =
+    rosters-row t size (withoutZone (t .zones) z) z h (λ y c f. has-without-other t z c y f)
+    ∙ ap (sets (rostersOf t) (z * carRoom t)) (no-car (upto (carRoom t)) ∙ ap (λ (n : ℕ). replicate n 0) (length-span 0 (carRoom t)))
+  where
+    no-car : (l : List ℕ) → map (λ (c : ℕ). bit (rosterHas (zoned t (withoutZone (t .zones) z)) z c)) l ≡ replicate (length l) 0
+    no-car [] = refl
+    no-car (c ∷ l) = rw (has-without t z c) (ap (λ (m : List ℕ). 0 ∷ m) (no-car l))

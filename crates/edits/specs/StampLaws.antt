@@ -1,0 +1,193 @@
+-- Laws of a car's bytes set in the rows of the zones it enters and leaves: the rosters are then what the records give.
+use Prim.Native.Nat.{ℕ, _+_, _*_, _/_, _%_, _<_, _≤_}
+use mathlib.Core.Path.{_≡_, refl, ap, ap₂, sym, _∙_}
+use mathlib.Core.Logic.{⊎-elim}
+use mathlib.Core.Bool.{Bool, true, false, _&&_, not, and-true}
+use mathlib.Core.List.{List, [], _∷_, List·Memᴰ, List·Memᴰ·head, List·Memᴰ·tail, List·Memᴰ·cases-cons, List·Memᴰ·not-nil}
+use native.Mathlib.Omega.{arith}
+use native.Mathlib.Numerals.{add-one}
+use native.Mathlib.Nat.{div-add-mod', mod-lt, div-lt-iff-lt-mul}
+use lib.Ieee.{Float}
+use lib.Arith.{digits-lt, digits-div, digits-mod}
+use lib.ListN.{length, getD, drop, set, length-set, drop-of-length-le}
+use lib.Seq.{drop-cons, getD-set-same, getD-set-other, ext-getD}
+use Rattle.order.specs.Order.{upto, keep}
+use Rattle.order.specs.Sums.{bit}
+use Rattle.order.specs.TestLaws.{lt-or-eq-or-gt, true-or-false, true-not-false, and→}
+use Rattle.order.specs.KeepLaws.{→span, keep→, →keep, keep-ext, keep-none}
+use Rattle.position.specs.declared.Position.{Position}
+use Rattle.position.specs.Answer.{columnOf, rowOf}
+use Rattle.tables.specs.Tables.{Tables, tables, shapeOf, zoneRoom, carRoom, zoneHolds, rosterHas}
+use Rattle.tables.specs.Check.{Sized}
+use Rattle.tables.specs.Derived.{rostersOf}
+use Rattle.tables.specs.Sound.{Sound}
+use Rattle.tables.specs.Steps.{parked, withSpot, reportStep, leaveStep}
+use Rattle.edits.specs.Edits.{stamped}
+use Rattle.edits.specs.RosterLaws.{byte-at, length-rosters}
+use Rattle.edits.specs.CarLaws.{has-fresh, report-own, report-other, report-keeps, leave-own, leave-other, leave-keeps}
+
+-- ---- the bytes set one by one
+
+-- of a list of zones those before place i are done
+pub record Stamping (b zs : List ℕ) (many c v : ℕ) (b′ : List ℕ) (i : ℕ) : Type 0 where
+  pub left : stamped b′ (drop i zs) many c v ≡ stamped b zs many c v
+  pub long : length b′ ≡ length b
+
+module _ (b zs : List ℕ) (many c v : ℕ) where
+  pub stamp-begins : Stamping b zs many c v b 0
+  stamp-begins = record { left = refl; long = refl }
+
+  pub stamp-turns : {b′ b″ : List ℕ} {i at : ℕ} → Stamping b zs many c v b′ i → i < length zs → at ≡ getD zs i 0 * many + c → b″ ≡ set b′ at v → Stamping b zs many c v b″ (i + 1)
+  unfolding stamped
+  stamp-turns {b′} {b″} {i} s h f g = let e = g ∙ ap (λ (n : ℕ). set b′ n v) f in record { left = ap (λ (l : List ℕ). stamped l (drop (i + 1) zs) many c v) e ∙ rw (drop-cons zs i 0 h, ← add-one i) at (s .left); long = ap length e ∙ length-set b′ (getD zs i 0 * many + c) v ∙ s .long }
+
+  pub stamp-ends : {b′ : List ℕ} {i : ℕ} → Stamping b zs many c v b′ i → length zs ≤ i → b′ ≡ stamped b zs many c v
+  unfolding stamped
+  stamp-ends {b′} {i} s h = sym (ap (λ (l : List ℕ). stamped b′ l many c v) (drop-of-length-le zs h)) ∙ s .left
+
+-- ---- what each byte is then
+
+pub length-stamped : (b zs : List ℕ) (many c v : ℕ) → length (stamped b zs many c v) ≡ length b
+unfolding stamped
+length-stamped b [] many c v = refl
+length-stamped b (z ∷ zs) many c v = length-stamped (set b (z * many + c) v) zs many c v ∙ length-set b (z * many + c) v
+
+stamped-apart : (b zs : List ℕ) (many c v j : ℕ) → ((z : ℕ) → List·Memᴰ z zs → j ≡ z * many + c → ⊥) → getD (stamped b zs many c v) j 0 ≡ getD b j 0
+unfolding stamped
+stamped-apart b [] many c v j f = refl
+stamped-apart b (z ∷ zs) many c v j f = stamped-apart (set b (z * many + c) v) zs many c v j (λ y m. f y (List·Memᴰ·tail m)) ∙ getD-set-other b (z * many + c) j v 0 (f z (List·Memᴰ·head refl))
+
+-- once set, a byte stays
+stamped-stays : (b zs : List ℕ) (many c v j : ℕ) → getD b j 0 ≡ v → j < length b → getD (stamped b zs many c v) j 0 ≡ v
+unfolding stamped
+stamped-stays b [] many c v j e h = e
+stamped-stays b (z ∷ zs) many c v j e h =
+    let at = z * many + c in
+    stamped-stays (set b at v) zs many c v j (⊎-elim
+    (λ (l : j < at). getD-set-other b at j v 0 (λ (q : j ≡ at). omega arith) ∙ e)
+    (⊎-elim
+    (λ (q : j ≡ at). ap (λ (n : ℕ). getD (set b at v) n 0) q ∙ getD-set-same b at v 0 (omega arith))
+    (λ (l : at < j). getD-set-other b at j v 0 (λ (q : j ≡ at). omega arith) ∙ e))
+    (lt-or-eq-or-gt j at)) (omega (arith, length-set b at v))
+
+stamped-there : (b zs : List ℕ) (many c v z : ℕ) → List·Memᴰ z zs → z * many + c < length b → getD (stamped b zs many c v) (z * many + c) 0 ≡ v
+unfolding stamped
+stamped-there b [] many c v z m h = absurd (List·Memᴰ·not-nil m)
+stamped-there b (y ∷ zs) many c v z m h = ⊎-elim
+    (λ (e : z ≡ y). rw e (stamped-stays (set b (y * many + c) v) zs many c v (y * many + c) (getD-set-same b (y * many + c) v 0 (rw e at h)) (omega (arith, length-set b (y * many + c) v, rw e at h))))
+    (λ (n : List·Memᴰ z zs). stamped-there (set b (y * many + c) v) zs many c v z n (omega (arith, length-set b (y * many + c) v)))
+    (List·Memᴰ·cases-cons m)
+
+-- ---- tables with other cars, where car c alone differs
+
+-- zones that have the car in the second tables and not in the first
+abbrev pub gained : Tables → Tables → ℕ → List ℕ
+gained t u c = keep (λ (z : ℕ). rosterHas u z c && not (rosterHas t z c)) (upto (zoneRoom t))
+
+flip : (b : Bool) → not b ≡ true → b ≡ false
+flip true e = absurd (true-not-false false e refl)
+flip false e = refl
+
+module _ (t : Tables) (cars : List ℕ) (spots : List Float) (size : Sized t) (c : ℕ) (there : c < carRoom t) (same : (z d : ℕ) → (d ≡ c → ⊥) → rosterHas (parked t cars spots) z d ≡ rosterHas t z d) where
+  abbrev u : Tables
+  u = parked t cars spots
+
+  abbrev came : List ℕ
+  came = stamped (rostersOf t) (gained t u c) (carRoom t) c 1
+
+  abbrev after : List ℕ
+  after = stamped came (gained u t c) (carRoom t) c 0
+
+  length-came : length came ≡ zoneRoom t * carRoom t
+  length-came = length-stamped (rostersOf t) (gained t u c) (carRoom t) c 1 ∙ length-rosters t
+
+  -- a byte of another car
+  byte-other : (z d : ℕ) → z < zoneRoom t → d < carRoom t → (d ≡ c → ⊥) → getD after (z * carRoom t + d) 0 ≡ bit (rosterHas u z d)
+  byte-other z d g l f =
+      stamped-apart came (gained u t c) (carRoom t) c 0 (z * carRoom t + d) (λ y m. miss y)
+      ∙ stamped-apart (rostersOf t) (gained t u c) (carRoom t) c 1 (z * carRoom t + d) (λ y m. miss y)
+      ∙ byte-at t z d g l
+      ∙ ap bit (sym (same z d f))
+    where
+      miss : (y : ℕ) → z * carRoom t + d ≡ y * carRoom t + c → ⊥
+      miss y e = f (sym (digits-mod z l) ∙ ap (λ (n : ℕ). n % carRoom t) e ∙ digits-mod y there)
+
+  module _ (z : ℕ) (g : z < zoneRoom t) where
+    at-zone : (y : ℕ) → z * carRoom t + c ≡ y * carRoom t + c → y ≡ z
+    at-zone y e = sym (digits-div y there) ∙ ap (λ (n : ℕ). n / carRoom t) (sym e) ∙ digits-div z there
+
+    within : z * carRoom t + c < zoneRoom t * carRoom t
+    within = digits-lt g there
+
+    listed : (v w : Tables) → zoneRoom v ≡ zoneRoom t → rosterHas w z c ≡ true → rosterHas v z c ≡ false → List·Memᴰ z (gained v w c)
+    listed v w r e f = →keep (λ (y : ℕ). rosterHas w y c && not (rosterHas v y c)) (upto (zoneRoom v)) z (→span 0 (zoneRoom v) z (omega arith) (omega arith)) (rw (e, f))
+
+    unlisted : (v w : Tables) → (rosterHas w z c ≡ true → rosterHas v z c ≡ false → ⊥) → (y : ℕ) → List·Memᴰ y (gained v w c) → z * carRoom t + c ≡ y * carRoom t + c → ⊥
+    unlisted v w f y m e =
+        let a = keep→ (λ (x : ℕ). rosterHas w x c && not (rosterHas v x c)) (upto (zoneRoom v)) y m in
+        let b = and→ (rosterHas w y c) (not (rosterHas v y c)) (a .1) in
+        let q = at-zone y e in
+        f (ap (λ (x : ℕ). rosterHas w x c) (sym q) ∙ b .0) (ap (λ (x : ℕ). rosterHas v x c) (sym q) ∙ flip (rosterHas v y c) (b .1))
+
+    -- the car's own byte
+    byte-own : getD after (z * carRoom t + c) 0 ≡ bit (rosterHas u z c)
+    byte-own = ⊎-elim
+        (λ (e : rosterHas u z c ≡ true).
+        stamped-apart came (gained u t c) (carRoom t) c 0 (z * carRoom t + c) (unlisted u t (λ a b. true-not-false (rosterHas u z c) e b))
+        ∙ ⊎-elim
+        (λ (f : rosterHas t z c ≡ true). stamped-apart (rostersOf t) (gained t u c) (carRoom t) c 1 (z * carRoom t + c) (unlisted t u (λ a b. true-not-false (rosterHas t z c) f b)) ∙ byte-at t z c g there ∙ ap bit (f ∙ sym e))
+        (λ (f : rosterHas t z c ≡ false). stamped-there (rostersOf t) (gained t u c) (carRoom t) c 1 z (listed t u refl e f) (omega (arith, within, length-rosters t)) ∙ ap bit (sym e))
+        (true-or-false (rosterHas t z c)))
+        (λ (e : rosterHas u z c ≡ false). ⊎-elim
+        (λ (f : rosterHas t z c ≡ true). stamped-there came (gained u t c) (carRoom t) c 0 z (listed u t refl f e) (omega (arith, within, length-came)) ∙ ap bit (sym e))
+        (λ (f : rosterHas t z c ≡ false).
+        stamped-apart came (gained u t c) (carRoom t) c 0 (z * carRoom t + c) (unlisted u t (λ a b. true-not-false (rosterHas t z c) a f))
+        ∙ stamped-apart (rostersOf t) (gained t u c) (carRoom t) c 1 (z * carRoom t + c) (unlisted t u (λ a b. true-not-false (rosterHas u z c) a e))
+        ∙ byte-at t z c g there
+        ∙ ap bit (f ∙ sym e))
+        (true-or-false (rosterHas t z c)))
+        (true-or-false (rosterHas u z c))
+
+  byte : (z d : ℕ) → z < zoneRoom t → d < carRoom t → getD after (z * carRoom t + d) 0 ≡ getD (rostersOf u) (z * carRoom t + d) 0
+  byte z d g l = ⊎-elim
+      (λ (h : d < c). byte-other z d g l (λ (e : d ≡ c). omega arith))
+      (⊎-elim (λ (e : d ≡ c). rw e (byte-own z g)) (λ (h : c < d). byte-other z d g l (λ (e : d ≡ c). omega arith)))
+      (lt-or-eq-or-gt d c)
+      ∙ sym (byte-at u z d g l)
+
+  -- the bytes of the zones entered and left set, the rosters are what the records give
+  pub rosters-stamped : after ≡ rostersOf u
+  rosters-stamped = ext-getD 0 after (rostersOf u)
+      (length-stamped came (gained u t c) (carRoom t) c 0 ∙ length-came ∙ sym (length-rosters u))
+      (λ i h. rw (div-add-mod' i (carRoom t)) at (byte (i / carRoom t) (i % carRoom t) (div-lt-iff-lt-mul (size .room .cars-some) .1 (omega (arith, length-stamped came (gained u t c) (carRoom t) c 0, length-came))) (mod-lt i (size .room .cars-some))))
+
+-- ---- the steps of the calls, table by table
+
+module _ (t : Tables) (sound : Sound t) (c : ℕ) (there : c < carRoom t) where
+  -- the zones that a report enters and leaves have their bytes set
+  pub reported-is : (p : Position) (came gone : List ℕ) → came ≡ keep (λ (z : ℕ). zoneHolds t z (columnOf (shapeOf t) p) (rowOf (shapeOf t) p) && not (rosterHas t z c)) (upto (zoneRoom t)) → gone ≡ keep (λ (z : ℕ). rosterHas t z c && not (zoneHolds t z (columnOf (shapeOf t) p) (rowOf (shapeOf t) p))) (upto (zoneRoom t)) → tables (t .head) (t .zones) (set (t .cars) c 1) (withSpot (t .spots) c p) (t .starts) (t .entries) (stamped (stamped (t .rosters) came (carRoom t) c 1) gone (carRoom t) c 0) ≡ reportStep t c p
+  reported-is p came gone e f =
+      let cars = set (t .cars) c 1 in
+      let spots = withSpot (t .spots) c p in
+      let u = parked t cars spots in
+      let own : (z : ℕ) → rosterHas u z c ≡ zoneHolds t z (columnOf (shapeOf t) p) (rowOf (shapeOf t) p) = λ (z : ℕ). sym (has-fresh u z c) ∙ report-own t c p z sound there in
+      let e′ : came ≡ gained t u c = e ∙ keep-ext _ (λ (z : ℕ). rosterHas u z c && not (rosterHas t z c)) (upto (zoneRoom t)) (λ z m. ap (λ (b : Bool). b && not (rosterHas t z c)) (sym (own z))) in
+      let f′ : gone ≡ gained u t c = f ∙ keep-ext _ (λ (z : ℕ). rosterHas t z c && not (rosterHas u z c)) (upto (zoneRoom t)) (λ z m. ap (λ (b : Bool). rosterHas t z c && not b) (sym (own z))) in
+      let bytes = ap₂ (λ (a b : List ℕ). stamped (stamped (t .rosters) a (carRoom t) c 1) b (carRoom t) c 0) e′ f′ ∙ ap (λ (b : List ℕ). stamped (stamped b (gained t u c) (carRoom t) c 1) (gained u t c) (carRoom t) c 0) (sound .rosters) ∙ rosters-stamped t cars spots (sound .size) c there (λ z d g. sym (has-fresh u z d) ∙ report-other t c p z d g) in
+      let keeps = report-keeps t sound c p in
+      ap (λ (b : List ℕ). tables (t .head) (t .zones) cars spots (t .starts) (t .entries) b) bytes
+      ∙ ap₂ (λ (a b : List ℕ). tables (t .head) (t .zones) cars spots a b (rostersOf u)) (sym (keeps .starts)) (sym (keeps .entries))
+
+  -- the zones that a leave takes the car from have their bytes cleared
+  pub departed-is : (gone : List ℕ) → gone ≡ keep (λ (z : ℕ). rosterHas t z c) (upto (zoneRoom t)) → tables (t .head) (t .zones) (set (t .cars) c 0) (t .spots) (t .starts) (t .entries) (stamped (t .rosters) gone (carRoom t) c 0) ≡ leaveStep t c
+  unfolding stamped
+  departed-is gone f =
+      let cars = set (t .cars) c 0 in
+      let u = parked t cars (t .spots) in
+      let own : (z : ℕ) → rosterHas u z c ≡ false = λ (z : ℕ). sym (has-fresh u z c) ∙ leave-own t c z in
+      let none : gained t u c ≡ [] = keep-none (λ (z : ℕ). rosterHas u z c && not (rosterHas t z c)) (upto (zoneRoom t)) (λ z m. ap (λ (b : Bool). b && not (rosterHas t z c)) (own z)) in
+      let f′ : gone ≡ gained u t c = f ∙ keep-ext (λ (z : ℕ). rosterHas t z c) (λ (z : ℕ). rosterHas t z c && not (rosterHas u z c)) (upto (zoneRoom t)) (λ z m. sym (ap (λ (b : Bool). rosterHas t z c && not b) (own z) ∙ and-true (rosterHas t z c))) in
+      let bytes = ap₂ (λ (a b : List ℕ). stamped a b (carRoom t) c 0) (sound .rosters) f′ ∙ ap (λ (a : List ℕ). stamped (stamped (rostersOf t) a (carRoom t) c 1) (gained u t c) (carRoom t) c 0) (sym none) ∙ rosters-stamped t cars (t .spots) (sound .size) c there (λ z d g. sym (has-fresh u z d) ∙ leave-other t c z d g) in
+      let keeps = leave-keeps t sound c in
+      ap (λ (b : List ℕ). tables (t .head) (t .zones) cars (t .spots) (t .starts) (t .entries) b) bytes
+      ∙ ap₂ (λ (a b : List ℕ). tables (t .head) (t .zones) cars (t .spots) a b (rostersOf u)) (sym (keeps .starts)) (sym (keeps .entries))

@@ -1,0 +1,12 @@
+use Rattle.soundness.specs.EntryLaws.{bit-yes, bit-no}
+use Rattle.soundness.proofs.sweep.is_bit.Statement.{statement}
+use Rattle.soundness.proofs.sweep.is_bit.Tie as tie
+
+returns : tie.Need-returns
+returns c = bit-yes _ _ (c .if1 .taken)
+
+returns-2 : tie.Need-returns-2
+returns-2 c = bit-no _ _ (c .if1 .left)
+
+pub is-bit-spec : {M : Type 1} → statement M
+is-bit-spec = tie.close (tie.spec returns returns-2)

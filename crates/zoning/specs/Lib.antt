@@ -1,0 +1,3 @@
+pub mod OpenLaws
+pub mod RemoveLaws
+pub mod AddLaws
