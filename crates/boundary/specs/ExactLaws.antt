@@ -33,8 +33,8 @@ use Rattle.tables.specs.Steps.{addStep}
 use Rattle.promises.specs.declared.answers.Judged.{Judged}
 use Rattle.zoning.specs.AddLaws.{bars-none}
 use Rattle.promises.specs.Promises.{Searches, searchedSays, searchRefusal, found, Lists, listedSays, listRefusal, roster, Adds, addedSays, addBars, addRefusal, Reports, reportedSays, reportRefusal, squaresLooked, entered, left, Leaves, departedSays, leaveRefusal, zonesOf, judgedSays}
-use Rattle.boundary.specs.Promises.{capped, Tells, Told, lengths, lengthsRefusal, lengthsSaid}
-use Rattle.boundary.specs.TellLaws.{capped-small}
+use Rattle.telling.specs.Promises.{capped, Tells, Told, lengths, lengthsRefusal, lengthsSaid}
+use Rattle.telling.specs.TellLaws.{capped-small}
 
 -- what is said, told with no value capped
 pub record Exact (says v v′ : List ℕ) (r : ℕ) : Type 0 where

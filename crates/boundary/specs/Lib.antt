@@ -1,3 +1,1 @@
-pub mod Promises
-pub mod TellLaws
 pub mod ExactLaws

@@ -1,11 +1,11 @@
 // Cars placed, moved, taken off the map and traced.
-use crate::answers::tell_departed;
-use crate::answers::tell_reported;
-use crate::answers::tell_traced;
 use position::Position;
+use telling::tell_departed;
+use telling::tell_reported;
+use telling::tell_traced;
 ghost use Rattle.tables.specs.Tables.{tables};
 ghost use Rattle.promises.specs.Promises.{Reports, reportedSays, Leaves, departedSays};
-ghost use Rattle.boundary.specs.Promises.{point, Told, Pointed};
+ghost use Rattle.telling.specs.Promises.{point, Told, Pointed};
 
 // Three values: the squares looked into, the zones entered, the zones left.
 #[no_mangle]

@@ -1,6 +1,4 @@
 // The calls for C and Rust. A call returns 0 or the number of a refusal; what it answers besides goes into `values`.
-mod tell; // tell.rt: a number returned, and values stored
-mod answers; // answers.rt: each call's answer told
 mod shapes; // shapes.rt: the calls without tables
 mod zones; // zones.rt: a town opened, zones added and taken away
 mod cars; // cars.rt: cars placed, moved, taken off the map and traced

@@ -1,11 +1,11 @@
 // Search, roster and soundness.
-use crate::answers::tell_judged;
-use crate::answers::tell_listed;
-use crate::answers::tell_searched;
 use position::Position;
+use telling::tell_judged;
+use telling::tell_listed;
+use telling::tell_searched;
 ghost use Rattle.tables.specs.Tables.{tables};
 ghost use Rattle.promises.specs.Promises.{Searches, searchedSays, Lists, listedSays, Judges, judgedSays};
-ghost use Rattle.boundary.specs.Promises.{point, Told};
+ghost use Rattle.telling.specs.Promises.{point, Told};
 
 // Two values: the squares looked into, the zones found.
 #[no_mangle]

@@ -1,12 +1,12 @@
 // The calls without tables.
-use crate::answers::tell_cut;
-use crate::answers::tell_located;
-use crate::answers::tell_numbered;
-use crate::tell::tell_seven;
 use squares::Rect;
 use squares::Shape;
+use telling::tell_cut;
+use telling::tell_located;
+use telling::tell_numbered;
+use telling::tell_seven;
 ghost use Rattle.squares.specs.Promises.{Numbers, numberedSays, Locates, locatedSays, Cuts, cutSays};
-ghost use Rattle.boundary.specs.Promises.{shape, rect, Tells, Told, lengthsSaid};
+ghost use Rattle.telling.specs.Promises.{shape, rect, Tells, Told, lengthsSaid};
 
 // Seven values: the lengths of the tables.
 #[no_mangle]

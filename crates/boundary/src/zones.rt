@@ -1,13 +1,13 @@
 // A town opened, zones added and taken away.
-use crate::answers::tell_added;
-use crate::answers::tell_opened;
-use crate::answers::tell_removed;
 use squares::Rect;
 use squares::Shape;
+use telling::tell_added;
+use telling::tell_opened;
+use telling::tell_removed;
 ghost use mathlib.Core.List.{[]};
 ghost use Rattle.tables.specs.Tables.{tables};
 ghost use Rattle.promises.specs.Promises.{Opens, openedSays, Adds, addedSays, Removes, removedSays};
-ghost use Rattle.boundary.specs.Promises.{shape, rect, Told};
+ghost use Rattle.telling.specs.Promises.{shape, rect, Told};
 
 // An empty town.
 #[no_mangle]

@@ -1,6 +1,6 @@
 -- Laws of the text of an answer: a number's text reads back as the number, and no answer is long.
 use Prim.Native.Nat.{ℕ, zero, suc, _+_, _-_, _*_, _/_, _%_, _^_, _<_, _≤_}
-use mathlib.Core.Path.{_≡_, refl, ap, sym, _∙_}
+use mathlib.Core.Path.{_≡_, refl, ap, sym, subst, _∙_}
 use mathlib.Core.Logic.{⊎-elim}
 use mathlib.Core.List.{List, [], _∷_, _++_, append-assoc, append-nil}
 use native.Mathlib.Omega.{arith}
@@ -194,3 +194,7 @@ answer-whole {b} {b′} {t} {r} a h =
     let n : r ≡ length t = a .wrote .next ∙ zero-add (length t) in
     let e : b′ ≡ over t b = wrote-over (a .wrote) (omega (arith, a .most)) in
     (e, rw (n, e) (take-over t b))
+
+-- the fields may be said another way
+pub answers-as : {b b′ : List ℕ} {n letter : ℕ} {parts other : List Part} → Answers b b′ n (answer letter parts) → other ≡ parts → Answers b b′ n (answer letter other)
+answers-as {b} {b′} {n} {letter} w e = subst (λ (ps : List Part). Answers b b′ n (answer letter ps)) (sym e) w

@@ -20,10 +20,10 @@ use Rattle.squares.specs.Leaves.{OnMap, Below, StepsApart}
 use Rattle.squares.specs.SquareLaws.{number-parent, number-below}
 use Rattle.squares.specs.DifferLaws.{Apart, apart-none, steps-apart}
 use Rattle.tables.specs.Tables.{Tables, shapeOf, rectOf, stands, zoneRoom, zoneHolds}
-use Rattle.tables.specs.Derived.{place, parentOf, on}
+use Rattle.tables.specs.Derived.{place, on}
 use Rattle.tables.specs.Sound.{Sound}
 use Rattle.tables.specs.PlaceLaws.{place-below, place-parent}
-use Rattle.tables.specs.Runs.{run, gathered, only, any, outside, Gathers}
+use Rattle.tables.specs.Runs.{parentOf, run, gathered, only, any, outside, Gathers}
 use Rattle.tables.specs.RunLaws.{onCell, holds→level, level→holds}
 use Rattle.tables.specs.GatherLaws.{front-gather, gathered-sound}
 use Rattle.lookup.specs.Looks.{lookedInto, Looks, Crosses}

@@ -1,6 +1,5 @@
 pub mod Room
 pub mod Replies
-pub mod Texts
 pub mod RoomLaws
 pub mod ReplyLaws
 pub mod PartLaws

@@ -22,16 +22,12 @@ use Rattle.promises.specs.declared.answers.Departed.{Departed}
 use Rattle.promises.specs.Promises.{Opens, Adds, Removes, Reports, Leaves, Searches, Lists}
 use Rattle.line.specs.declared.records.Record.{Record}
 use Rattle.line.specs.declared.records.Record.the-variants.{Open, Add, Remove, Report, Leave, Search, Roster}
-use Rattle.line.specs.Text.{Part, answer, Answers}
+use Rattle.line.specs.Text.{answer, Answers}
 use Rattle.replay.specs.Room.{placesOf, lent, Ready}
 use Rattle.replay.specs.Replies.{positionOf, Replies}
-use Rattle.replay.specs.Texts.{openedParts, removedParts, addedParts, addedSquares, addedCars, reportedParts, reportedCame, reportedGone, departedParts, departedGone, searchedParts, searchedCount, listedParts, listedCount}
+use Rattle.wording.specs.Texts.{openedParts, removedParts, addedParts, addedSquares, addedCars, reportedParts, reportedCame, reportedGone, departedParts, departedGone, searchedParts, searchedCount, listedParts, listedCount}
 use Rattle.replay.specs.RoomLaws.{squares-64, places-within, put-back}
 use Rattle.replay.specs.ReplyLaws.{added-few, add-replies, remove-replies, reported-few, report-replies, departed-few, leave-replies, searched-few, search-replies, listed-few, list-replies, open-replies}
-
--- the fields may be said another way
-pub answers-as : {b b′ : List ℕ} {n letter : ℕ} {parts other : List Part} → Answers b b′ n (answer letter parts) → other ≡ parts → Answers b b′ n (answer letter other)
-answers-as {b} {b′} {n} {letter} w e = subst (λ (ps : List Part). Answers b b′ n (answer letter ps)) (sym e) w
 
 -- a line that means a record is answered as the record
 pub replies-as : {t t′ : Tables} {asked line : Record} {b b′ : List ℕ} {n : ℕ} → Replies t t′ asked b b′ n → line ≡ asked → Replies t t′ line b b′ n

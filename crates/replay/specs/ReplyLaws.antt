@@ -41,7 +41,7 @@ use Rattle.tables.specs.Derived.{used}
 use Rattle.squares.specs.Cut.{cut}
 use Rattle.replay.specs.Room.{lent, into, Ready}
 use Rattle.replay.specs.Replies.{positionOf, openBars, outcome, spoken, kept, Replies}
-use Rattle.replay.specs.Texts.{openedParts, removedParts, addedParts, addedSquares, addedCars, reportedParts, reportedCame, reportedGone, departedParts, departedGone, searchedParts, searchedCount, listedParts, listedCount}
+use Rattle.wording.specs.Texts.{openedParts, removedParts, addedParts, addedSquares, addedCars, reportedParts, reportedCame, reportedGone, departedParts, departedGone, searchedParts, searchedCount, listedParts, listedCount}
 use Rattle.replay.specs.RoomLaws.{squares-64, lent-sound, zones-16, cars-64, entries-2048, kept-back, ready-into, ready-same}
 
 spoken-alone : (n : ℕ) (fields : List Part) → (n ≡ 0 → ⊥) → spoken n fields ≡ number n ∷ []

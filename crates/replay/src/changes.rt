@@ -1,14 +1,14 @@
 // The records that change the tables: M, A, D, P and L.
 use crate::room::places_in;
 use crate::room::position_of;
-use crate::texts::tell_added;
-use crate::texts::tell_departed;
-use crate::texts::tell_opened;
-use crate::texts::tell_removed;
-use crate::texts::tell_reported;
 use line::write_number;
 use squares::Rect;
 use squares::Shape;
+use wording::tell_added;
+use wording::tell_departed;
+use wording::tell_opened;
+use wording::tell_removed;
+use wording::tell_reported;
 ghost use Rattle.tables.specs.Tables.{tables};
 ghost use Rattle.replay.specs.Room.{Ready};
 ghost use Rattle.replay.specs.Replies.{Replies};

@@ -1,6 +1,5 @@
 // One step of a log: a line in, its answer out, and the tables changed as the line says.
 mod room; // room.rt: the part of the starts that a town needs, a position from its bits
-mod texts; // texts.rt: the text of a call's answer
 mod changes; // changes.rt: the records that change the tables
 mod looks; // looks.rt: the records that only read them
 mod steps; // steps.rt: one step

@@ -1,8 +1,8 @@
 // The records that only read the tables: S and R.
 use crate::room::places_in;
 use crate::room::position_of;
-use crate::texts::tell_listed;
-use crate::texts::tell_searched;
+use wording::tell_listed;
+use wording::tell_searched;
 ghost use Rattle.tables.specs.Tables.{tables};
 ghost use Rattle.replay.specs.Room.{Ready};
 ghost use Rattle.replay.specs.Replies.{Replies};

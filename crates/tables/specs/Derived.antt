@@ -20,10 +20,6 @@ before s i = s .P * s .Q * (4 ^ i - 1) / 3
 abbrev pub place : Shape → ℕ → ℕ → ℕ
 place s i n = before s i + n
 
--- the place of a square's parent
-abbrev pub parentOf : Shape → ℕ → ℕ
-parentOf s p = (p - s .P * s .Q) / 4
-
 -- the level of a place is how many of the levels 1 to k begin at it or before it
 unfoldable pub levelAt : Shape → ℕ → ℕ
 levelAt s p = length (keep (λ (i : ℕ). leb (before s (i + 1)) p) (upto (s .k)))

@@ -19,7 +19,8 @@ use Rattle.squares.specs.Leaves.{Positive, Below, OnLevel}
 use Rattle.squares.specs.PowerLaws.{four-pos}
 use Rattle.squares.specs.ShapeLaws.{blocks-small}
 use Rattle.squares.specs.SquareLaws.{squaresTo, count-to, thrice}
-use Rattle.tables.specs.Derived.{before, place, parentOf, levelAt, numberAt}
+use Rattle.tables.specs.Derived.{before, place, levelAt, numberAt}
+use Rattle.tables.specs.Runs.{parentOf}
 
 -- one level more
 pub before-more : (s : Shape) (i : ℕ) → before s (suc i) ≡ before s i + squaresOn s i

@@ -1,5 +1,5 @@
 -- What is gathered from a square's run of entries, over plain lists.
-use Prim.Native.Nat.{ℕ, _+_, _-_, _*_, _%_, _≤_}
+use Prim.Native.Nat.{ℕ, _+_, _-_, _*_, _/_, _%_, _≤_}
 use mathlib.Core.Path.{_≡_}
 use mathlib.Core.Bool.{Bool, true, false, cond, not, _&&_}
 use mathlib.Core.List.{List, [], _∷_}
@@ -7,8 +7,13 @@ use lib.Dec.{leb, ltb}
 use lib.ListN.{length, getD, take, drop}
 use Rattle.order.specs.Order.{keep, over}
 use Rattle.order.specs.Buffer.{putIn, Put}
+use Rattle.squares.specs.declared.shape.Shape.{Shape}
 use Rattle.squares.specs.Cut.{holds}
 use Rattle.tables.specs.Tables.{rectIn}
+
+-- the place of the parent of the square at a place
+abbrev pub parentOf : Shape → ℕ → ℕ
+parentOf s p = (p - s .P * s .Q) / 4
 
 -- the entries from one start up to the next, or none where the next start lies past the entries' end
 unfoldable pub run : List ℕ → List ℕ → ℕ → List ℕ

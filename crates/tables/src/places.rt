@@ -5,7 +5,8 @@ ghost use mathlib.Core.Path.{_≡_};
 ghost use Rattle.squares.specs.Shape.{Allowed};
 ghost use Rattle.squares.specs.Squares.{squaresOn, squares};
 ghost use Rattle.squares.specs.Leaves.{OnLevel, Below};
-ghost use Rattle.tables.specs.Derived.{place, parentOf};
+ghost use Rattle.tables.specs.Derived.{place};
+ghost use Rattle.tables.specs.Runs.{parentOf};
 
 // P·Q·(4^level − 1) / 3 squares lie on the levels above.
 pub fn place_of(s: Shape, level: u32, n: u32) -> usize

@@ -1,4 +1,4 @@
-use Rattle.boundary.specs.TellLaws.{tells-as, lengths-shape, lengths-room, lengths-all}
+use Rattle.telling.specs.TellLaws.{tells-as, lengths-shape, lengths-room, lengths-all}
 use Rattle.tables.specs.CheckLaws.{roomy→}
 use Rattle.squares.specs.ShapeLaws.{allowed→}
 use borrow.Author.Tests.{not-true, not-false}
