@@ -19,7 +19,7 @@ use Rattle.squares.specs.Squares.{squares, number, differ}
 use Rattle.squares.specs.Leaves.{OnMap}
 use Rattle.squares.specs.DifferLaws.{differ-count}
 use Rattle.squares.specs.Promises.{unless}
-use Rattle.squares.specs.PromiseLaws.{unless→, unless-later, not-both}
+use Rattle.squares.specs.PromiseLaws.{unless→, not-both}
 use Rattle.position.specs.declared.Position.{Position}
 use Rattle.position.specs.declared.Spot.{Spot}
 use Rattle.position.specs.Answer.{onTown, columnOf, rowOf, spotOn}
@@ -41,6 +41,7 @@ use Rattle.promises.specs.Promises.{traceRefusal, Reports, reportRefusal, repor
 use Rattle.lookup.specs.Looks.{Looks, Crosses, Enters, Sees}
 use Rattle.driving.specs.Admits.{refusedOrAt, admitted}
 use Rattle.lookup.specs.LookLaws.{looked-holds, looked-apart, cross-same}
+use Rattle.reading.specs.ReadLaws.{three-later, three-passed}
 use Rattle.reading.specs.SearchLaws.{spot-off, spot-on}
 
 -- ---- how a report is refused
@@ -243,15 +244,11 @@ module _ (t : Tables) (c room : ℕ) where
   -- as a trace is refused, or then by the room alone
   pub leave-car : (traceRefusal t c ≡ 0 → ⊥) → leaveRefusal t c room ≡ traceRefusal t c
   unfolding leaveRefusal traceRefusal
-  leave-car f = unless-later (sized t) 3 _ _ f (λ g. unless-later (ltb c (carRoom t)) 5 _ _ g (λ h. unless-later (placed t c) 8 _ _ h (λ k. absurd (k refl))))
+  leave-car f = three-later (sized t) (ltb c (carRoom t)) (placed t c) 3 5 8 _ f
 
   leave-room : traceRefusal t c ≡ 0 → leaveRefusal t c room ≡ unless (leb (zoneRoom t) room) 11 0
   unfolding leaveRefusal traceRefusal
-  leave-room e =
-      let a = unless→ (sized t) 2 _ e in
-      let b = unless→ (ltb c (carRoom t)) 4 _ (a .1) in
-      let d = unless→ (placed t c) 7 _ (b .1) in
-      rw (a .0, b .0, d .0)
+  leave-room e = three-passed (sized t) (ltb c (carRoom t)) (placed t c) 2 4 7 _ e
 
   pub leave-11 : traceRefusal t c ≡ 0 → room < zoneRoom t → leaveRefusal t c room ≡ 11
   leave-11 e h = leave-room e ∙ rw (lt-leb (zoneRoom t) room h)

@@ -21,12 +21,12 @@ use Rattle.tables.specs.Derived.{on, keysTo, used, free, entriesOf, startsOf}
 use Rattle.tables.specs.Sound.{Sound}
 use Rattle.tables.specs.Steps.{zoned, withoutZone}
 use Rattle.edits.specs.Edits.{Reaches, ofZone, ofOther, own, others, dropped, Packed, Drops}
-use Rattle.edits.specs.Shift.{shifted, less, Shifts, Lowers}
+use Rattle.edits.specs.Shift.{shifted, less, Shifts, Moved}
 use Rattle.edits.specs.ZoneLaws.{on-without}
 use Rattle.tables.specs.RunLaws.{start-at, start-within}
 use Rattle.tables.specs.RowLaws.{mapped}
 use Rattle.edits.specs.RankLaws.{rank-kept}
-use Rattle.edits.specs.ShiftLaws.{Moving, move-begins, move-turns, move-ends, less-more, lower-ends}
+use Rattle.edits.specs.ShiftLaws.{Moving, move-begins, move-turns, move-ends, less-more}
 
 -- ---- the keys of other zones moved to the front
 
@@ -134,7 +134,7 @@ module _ {z : ℕ} {s s′ e e′ : List ℕ} {p v r i : ℕ} (k : Dropping z s 
         front = k .packing .front ∙ ap (others z) a;
         count = k .packing .count ∙ ap (λ (l : List ℕ). length (others z l)) a;
         within = omega (arith, k .packing .passed, k .packing .within);
-        starts = lower-ends (move-ends (k .moving) (omega arith) (rw (k .lowering) at shifts));
+        starts = move-ends (k .moving) (omega arith) (rw (k .lowering) at shifts);
       }
 
 -- free marks written after them
@@ -174,7 +174,7 @@ module _ {t : Tables} (sound : Sound t) (z : ℕ) where
       ∙ keep-ext (λ (k : ℕ). on t k && ofOther z k) (on (zoned t (withoutZone (t .zones) z))) (upto (p * 256)) (λ k m. sym (on-without t z k))
 
   -- the starts lowered by zone z's keys are those of the tables without zone z
-  pub lower-sound : {s : List ℕ} → Lowers (own z (t .entries)) (t .starts) s → s ≡ startsOf (zoned t (withoutZone (t .zones) z))
+  pub lower-sound : {s : List ℕ} → Moved less (own z (t .entries)) 0 (t .starts) s → s ≡ startsOf (zoned t (withoutZone (t .zones) z))
   lower-sound {s} low = mapped s (λ (p : ℕ). length (keysTo (zoned t (withoutZone (t .zones) z)) p)) (squares (shapeOf t) + 1) (low .long ∙ sound .size .lengths .starts) start
     where
       start : (p : ℕ) → p < squares (shapeOf t) + 1 → getD s p 0 ≡ length (keysTo (zoned t (withoutZone (t .zones) z)) p)
@@ -184,7 +184,7 @@ module _ {t : Tables} (sound : Sound t) (z : ℕ) where
           let was : getD (t .starts) p 0 ≡ n = start-at sound p (omega arith) in
           let gone : rank (p * 256) (own z (t .entries)) ≡ m = ap (λ (l : List ℕ). rank (p * 256) (own z l)) (sound .entries) ∙ rank-kept t (sound .size) (ofZone z) p (omega arith) in
           let left : length (others z (keysTo t p)) ≡ length (keysTo (zoned t (withoutZone (t .zones) z)) p) = ap length (keys-without p) in
-          low .each p (omega (arith, sound .size .lengths .starts)) ∙ ap₂ (λ (v x : ℕ). shifted (less v) x) gone was
+          low .each p (omega arith) (omega (arith, sound .size .lengths .starts)) ∙ ap₂ (λ (v x : ℕ). shifted (less v) x) gone was
           ∙ omega (arith, left, length-parts z (keysTo t p), start-within sound p (omega arith), sound .size .lengths .entries, sound .size .room .entries-few)
 
   -- the entries without zone z's keys are those of the tables without zone z

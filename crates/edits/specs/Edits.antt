@@ -9,7 +9,7 @@ use lib.Seq.{sets}
 use Rattle.order.specs.Order.{upto, keep}
 use Rattle.order.specs.Buffer.{rank}
 use Rattle.tables.specs.Derived.{free}
-use Rattle.edits.specs.Shift.{Lowers}
+use Rattle.edits.specs.Shift.{less, Moved}
 
 -- for each of so many places, how many entries at the front are keys of places before it
 abbrev pub ranks : List ℕ → ℕ → List ℕ
@@ -51,11 +51,11 @@ pub record Packed (z : ℕ) (s s′ e e′ : List ℕ) (r : ℕ) : Type 0 where
   pub front : take r e′ ≡ others z e
   pub count : r ≡ length (others z e)
   pub within : r ≤ length e
-  pub starts : Lowers (own z e) s s′
+  pub starts : Moved less (own z e) 0 s s′
 
 -- the starts are lowered by zone z's keys, and those are taken out of the entries
 pub record Drops (z : ℕ) (s s′ e e′ : List ℕ) : Type 0 where
-  pub starts : Lowers (own z e) s s′
+  pub starts : Moved less (own z e) 0 s s′
   pub entries : e′ ≡ dropped z e
 
 -- zone z's row of so many bytes set to 0

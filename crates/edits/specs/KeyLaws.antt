@@ -24,7 +24,7 @@ use Rattle.tables.specs.Derived.{before, levelAt, numberAt}
 use Rattle.tables.specs.PlaceLaws.{before-more, before-none, before-all, level-place, number-place}
 use Rattle.edits.specs.RankLaws.{map-same}
 use Rattle.edits.specs.Edits.{ranks}
-use Rattle.edits.specs.Shift.{shifted, Raised}
+use Rattle.edits.specs.Shift.{shifted, plus, Moved}
 use Rattle.tables.specs.RowLaws.{mapped-at}
 use Rattle.edits.specs.Merge.{Merged}
 use Rattle.edits.specs.Keys.{codePlace, codeKey, zoneKeys, Coded, KeyRoom, Keyed, AddRoom, KeysAdded}
@@ -173,7 +173,7 @@ module _ {s : Shape} {r : Rect} {z u : ℕ} {starts entries : List ℕ} (k : Add
         let e : q ≡ length (zoneKeys s r z) + d = omega (arith, w .count) in
         rw (w .written, e) (getD-append-add (zoneKeys s r z) (drop (length (zoneKeys s r z)) starts) d 0 ∙ getD-drop (length (zoneKeys s r z)) starts d 0)
 
-    pub keys-added : (e s′ l : List ℕ) → Merged entries e u (take n starts′) → Raised starts′ s′ n → l ≡ ranks e (length (take n s′)) → length s′ ≡ length starts → KeysAdded s r z u starts (l ++ drop n s′) entries e
+    pub keys-added : (e s′ l : List ℕ) → Merged entries e u (take n starts′) → Moved plus (take n starts′) n starts′ s′ → l ≡ ranks e (length (take n s′)) → length s′ ≡ length starts → KeysAdded s r z u starts (l ++ drop n s′) entries e
     keys-added e s′ l m d q h =
         let front : length (take n s′) ≡ n = length-take-le n s′ (omega (arith, w .within)) in
         let shown : length l ≡ n = ap length q ∙ length-map (upto (length (take n s′))) (λ (p : ℕ). rank (p * 256) e) ∙ length-span 0 (length (take n s′)) ∙ front in
@@ -185,5 +185,5 @@ module _ {s : Shape} {r : Rect} {z u : ℕ} {starts entries : List ℕ} (k : Add
               let i = p - n in
               let x : p ≡ n + i = omega (arith, w .count) in
               let y : p ≡ length l + i = omega (arith, w .count) in
-              ap (λ (v : ℕ). getD (l ++ drop n s′) v 0) y ∙ getD-append-add l (drop n s′) i 0 ∙ getD-drop n s′ i 0 ∙ ap (λ (v : ℕ). getD s′ v 0) (sym x) ∙ d .moved p (omega (arith, w .count)) (omega (arith, d .long)) ∙ ap₂ (λ (v : List ℕ) (o : ℕ). shifted (rank (p * 256) v) o) keys-shown (after-keys p (omega (arith, w .count)));
+              ap (λ (v : ℕ). getD (l ++ drop n s′) v 0) y ∙ getD-append-add l (drop n s′) i 0 ∙ getD-drop n s′ i 0 ∙ ap (λ (v : ℕ). getD s′ v 0) (sym x) ∙ d .each p (omega (arith, w .count)) (omega (arith, d .long)) ∙ ap₂ (λ (v : List ℕ) (o : ℕ). shifted (rank (p * 256) v) o) keys-shown (after-keys p (omega (arith, w .count)));
         }

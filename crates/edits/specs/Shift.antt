@@ -2,33 +2,35 @@
 use Prim.Native.Nat.{ℕ, _+_, _-_, _*_, _%_, _^_, _<_, _≤_}
 use mathlib.Core.Path.{_≡_}
 use mathlib.Core.List.{List}
-use lib.ListN.{length, getD, take}
+use lib.ListN.{length, getD}
 use Rattle.order.specs.Buffer.{rank}
 
 abbrev pub shifted : ℕ → ℕ → ℕ
 shifted v x = (x + v) % 2 ^ 32
 
--- numbers from place p up to r are moved by v: r is the end where that lies further on, else p
-pub record Shifts (s s′ : List ℕ) (p end v r : ℕ) : Type 0 where
-  pub moved : (q : ℕ) → p ≤ q → q < r → getD s′ q 0 ≡ shifted v (getD s q 0)
-  pub before : (q : ℕ) → q < p → getD s′ q 0 ≡ getD s q 0
-  pub after : (q : ℕ) → r ≤ q → getD s′ q 0 ≡ getD s q 0
+-- numbers from place p up to q are moved by v, and all of them lie before the end
+pub record Shifting (s s′ : List ℕ) (p end v q : ℕ) : Type 0 where
+  pub moved : (n : ℕ) → p ≤ n → n < q → getD s′ n 0 ≡ shifted v (getD s n 0)
+  pub before : (n : ℕ) → n < p → getD s′ n 0 ≡ getD s n 0
+  pub after : (n : ℕ) → q ≤ n → getD s′ n 0 ≡ getD s n 0
   pub long : length s′ ≡ length s
-  pub low : p ≤ r
-  pub most : r ≤ length s
-  pub reached : end ≤ r
-  pub no-more : (q : ℕ) → p ≤ q → q < r → q < end
+  pub low : p ≤ q
+  pub most : q ≤ length s
+  pub no-more : (n : ℕ) → p ≤ n → n < q → n < end
 
--- the first n numbers are keys, and each number after them is moved by how many of the keys lie before its place
-pub record Raised (s s′ : List ℕ) (n : ℕ) : Type 0 where
-  pub moved : (q : ℕ) → n ≤ q → q < length s → getD s′ q 0 ≡ shifted (rank (q * 256) (take n s)) (getD s q 0)
-  pub long : length s′ ≡ length s
+-- and none is left: q is the end where that lies further on, else p
+pub record Shifts (s s′ : List ℕ) (p end v q : ℕ) : Type 0 where
+  pub part : Shifting s s′ p end v q
+  pub reached : end ≤ q
 
--- what takes n off a number when it is added
+-- what adds n to a number, and what takes n off it
+abbrev pub plus : ℕ → ℕ
+plus n = n
+
 abbrev pub less : ℕ → ℕ
 less n = (2 ^ 32 - n % 2 ^ 32) % 2 ^ 32
 
--- the number of each place is lowered by how many keys at the front lie before the place
-pub record Lowers (keys s s′ : List ℕ) : Type 0 where
-  pub each : (q : ℕ) → q < length s → getD s′ q 0 ≡ shifted (less (rank (q * 256) keys)) (getD s q 0)
+-- from place lo on each number is moved by what c makes of how many keys at the front lie before its place
+pub record Moved (c : ℕ → ℕ) (keys : List ℕ) (lo : ℕ) (s s′ : List ℕ) : Type 0 where
+  pub each : (q : ℕ) → lo ≤ q → q < length s → getD s′ q 0 ≡ shifted (c (rank (q * 256) keys)) (getD s q 0)
   pub long : length s′ ≡ length s

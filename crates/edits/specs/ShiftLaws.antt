@@ -12,19 +12,9 @@ use Rattle.order.specs.TestLaws.{lt-or-le}
 use Rattle.order.specs.Buffer.{rank}
 use Rattle.order.specs.BufferLaws.{rank-stop, rank-go, rank-end}
 use Rattle.edits.specs.Edits.{Reaches}
-use Rattle.edits.specs.Shift.{shifted, Shifts, Raised, less, Lowers}
+use Rattle.edits.specs.Shift.{shifted, Shifting, Shifts, plus, less, Moved}
 
 -- ---- one range
-
--- the numbers from p on are moved up to q
-pub record Shifting (d l : List ℕ) (p end v q : ℕ) : Type 0 where
-  pub moved : (n : ℕ) → p ≤ n → n < q → getD l n 0 ≡ shifted v (getD d n 0)
-  pub before : (n : ℕ) → n < p → getD l n 0 ≡ getD d n 0
-  pub after : (n : ℕ) → q ≤ n → getD l n 0 ≡ getD d n 0
-  pub long : length l ≡ length d
-  pub low : p ≤ q
-  pub most : q ≤ length d
-  pub no-more : (n : ℕ) → p ≤ n → n < q → n < end
 
 pub shift-begins : (d : List ℕ) (p end v : ℕ) → p ≤ length d → Shifting d d p end v p
 shift-begins d p end v h = record { moved = λ (n : ℕ) (a : p ≤ n) (b : n < p). absurd (omega arith); before = λ n a. refl; after = λ n a. refl; long = refl; low = omega arith; most = h; no-more = λ (n : ℕ) (a : p ≤ n) (b : n < p). absurd (omega arith) }
@@ -43,9 +33,6 @@ module _ {d l : List ℕ} {p end v q : ℕ} (k : Shifting d l p end v q) where
     where
       now : (n : ℕ) → p ≤ n → n < q + 1 → getD (set l q x) n 0 ≡ shifted v (getD d n 0)
       now n a b = ⊎-elim (λ (m : n < q). getD-set-other l q n x 0 (λ (z : n ≡ q). omega arith) ∙ k .moved n a m) (λ (m : q ≤ n). let z : n ≡ q = omega arith in rw z (getD-set-same l q x 0 (omega (arith, k .long, h, g)) ∙ e ∙ ap (shifted v) (k .after q (omega arith)))) (lt-or-le n q)
-
-  pub shift-ends : end ≤ q → Shifts d l p end v q
-  shift-ends h = record { moved = k .moved; before = k .before; after = k .after; long = k .long; low = k .low; most = k .most; reached = h; no-more = k .no-more }
 
 -- ---- from key to key
 
@@ -68,54 +55,41 @@ module _ {c : ℕ → ℕ} {keys d l : List ℕ} {lo p j : ℕ} (k : Moving c ke
   -- a range of places that have j keys before them
   move-range : {l′ : List ℕ} {end r : ℕ} → Shifts l l′ p end (c j) r → ((q : ℕ) → p ≤ q → q < r → rank (q * 256) keys ≡ j) → (q : ℕ) → lo ≤ q → q < r → getD l′ q 0 ≡ shifted (c (rank (q * 256) keys)) (getD d q 0)
   move-range {l′} {end} {r} f same q a b = ⊎-elim
-      (λ (h : q < p). f .before q h ∙ k .moved q a h)
-      (λ (h : p ≤ q). rw (same q h b) (f .moved q h b ∙ ap (shifted (c j)) (k .after q h)))
+      (λ (h : q < p). f .part .before q h ∙ k .moved q a h)
+      (λ (h : p ≤ q). rw (same q h b) (f .part .moved q h b ∙ ap (shifted (c j)) (k .after q h)))
       (lt-or-le q p)
 
   pub move-turns : {l′ : List ℕ} {end r : ℕ} → j < length keys → Reaches (getD keys j 0) (length d) end → Shifts l l′ p end (c j) r → Moving c keys d l′ lo r (j + 1)
   move-turns {l′} {end} {r} h reach f = record {
-    moved = move-range f (λ q a b. k .passed q a (omega (arith, f .most, k .long)) ∙ ap (λ (n : ℕ). j + n) (rank-stop (q * 256) keys j h (reach .own q (f .no-more q a b))) ∙ add-zero j);
-    before = λ (q : ℕ) (a : q < lo). f .before q (omega (arith, k .low)) ∙ k .before q a;
-    after = λ (q : ℕ) (a : r ≤ q). f .after q a ∙ k .after q (omega (arith, f .low));
-    long = f .long ∙ k .long;
-    low = omega (arith, f .low, k .low);
-    most = omega (arith, f .most, k .long);
+    moved = move-range f (λ q a b. k .passed q a (omega (arith, f .part .most, k .long)) ∙ ap (λ (n : ℕ). j + n) (rank-stop (q * 256) keys j h (reach .own q (f .part .no-more q a b))) ∙ add-zero j);
+    before = λ (q : ℕ) (a : q < lo). f .part .before q (omega (arith, k .low)) ∙ k .before q a;
+    after = λ (q : ℕ) (a : r ≤ q). f .part .after q a ∙ k .after q (omega (arith, f .part .low));
+    long = f .part .long ∙ k .long;
+    low = omega (arith, f .part .low, k .low);
+    most = omega (arith, f .part .most, k .long);
     few = omega arith;
-    passed = λ q a b. k .passed q (omega (arith, f .low)) b ∙ ap (λ (n : ℕ). j + n) (rank-go (q * 256) keys j h (reach .after q (omega (arith, f .reached)) b)) ∙ rw (add-one j) (omega arith);
+    passed = λ q a b. k .passed q (omega (arith, f .part .low)) b ∙ ap (λ (n : ℕ). j + n) (rank-go (q * 256) keys j h (reach .after q (omega (arith, f .reached)) b)) ∙ rw (add-one j) (omega arith);
   }
 
   -- the places after the last key
-  pub move-ends : {l′ : List ℕ} {r : ℕ} → length keys ≤ j → Shifts l l′ p (length d) (c j) r → Moving c keys d l′ lo (length d) j
+  pub move-ends : {l′ : List ℕ} {r : ℕ} → length keys ≤ j → Shifts l l′ p (length d) (c j) r → Moved c keys lo d l′
   move-ends {l′} {r} h f =
-      let e : r ≡ length d = omega (arith, f .reached, f .most, k .long) in
-      let none : (q : ℕ) → p ≤ q → q < length d → rank (q * 256) keys ≡ j = λ q a b. k .passed q a b ∙ ap (λ (n : ℕ). j + n) (rank-end (q * 256) keys j h) ∙ add-zero j in
+      let e : r ≡ length d = omega (arith, f .reached, f .part .most, k .long) in
       record {
-        moved = λ (q : ℕ) (a : lo ≤ q) (b : q < length d). move-range f (λ (m : ℕ) (x : p ≤ m) (y : m < r). none m x (omega arith)) q a (omega arith);
-        before = λ (q : ℕ) (a : q < lo). f .before q (omega (arith, k .low)) ∙ k .before q a;
-        after = λ (q : ℕ) (a : length d ≤ q). f .after q (omega arith) ∙ k .after q (omega (arith, k .most));
-        long = f .long ∙ k .long;
-        low = omega (arith, f .low, k .low);
-        most = omega arith;
-        few = k .few;
-        passed = λ (q : ℕ) (a : length d ≤ q) (b : q < length d). absurd (omega arith);
+        each = λ (q : ℕ) (a : lo ≤ q) (b : q < length d). move-range f (λ (m : ℕ) (x : p ≤ m) (y : m < r). k .passed m x (omega arith) ∙ ap (λ (n : ℕ). j + n) (rank-end (m * 256) keys j h) ∙ add-zero j) q a (omega arith);
+        long = f .part .long ∙ k .long;
       }
 
 -- ---- the keys at the front
 
 -- a key as the loop reads it
-pub key-there : {d l : List ℕ} {n p j : ℕ} → Moving (λ (g : ℕ). g) (take n d) d l n p j → j < n → getD l j 0 ≡ getD (take n d) j 0
+pub key-there : {d l : List ℕ} {n p j : ℕ} → Moving plus (take n d) d l n p j → j < n → getD l j 0 ≡ getD (take n d) j 0
 key-there {d} {l} {n} {p} {j} k g = k .before j g ∙ sym (getD-take n d j 0 g)
 
-pub key-few : {d l : List ℕ} {n p j : ℕ} → Moving (λ (g : ℕ). g) (take n d) d l n p j → j ≤ n
+pub key-few : {d l : List ℕ} {n p j : ℕ} → Moving plus (take n d) d l n p j → j ≤ n
 key-few {d} {l} {n} {p} {j} k = omega (arith, k .few, length-take-le n d (omega (arith, k .low, k .most)))
-
-pub raise-ends : {d l : List ℕ} {n j : ℕ} → Moving (λ (g : ℕ). g) (take n d) d l n (length d) j → Raised d l n
-raise-ends k = record { moved = k .moved; long = k .long }
 
 -- ---- down by one more for each key
 
 pub less-more : (n v v′ : ℕ) → v′ < 2 ^ 32 → (v′ + 1) % 2 ^ 32 ≡ v → v ≡ less n → v′ ≡ less (n + 1)
 less-more n v v′ h e f = omega arith
-
-pub lower-ends : {keys d l : List ℕ} {j : ℕ} → Moving less keys d l 0 (length d) j → Lowers keys d l
-lower-ends {d = d} k = record { each = λ (q : ℕ) (h : q < length d). k .moved q (omega arith) h; long = k .long }

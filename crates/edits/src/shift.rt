@@ -1,8 +1,8 @@
 // The starts moved by ranges.
 use crate::starts::place_after;
 ghost use Prim.Native.Nat.{_≤_};
-ghost use lib.ListN.{length};
-ghost use Rattle.edits.specs.Shift.{Shifts, Raised};
+ghost use lib.ListN.{length, take};
+ghost use Rattle.edits.specs.Shift.{Shifts, plus, Moved};
 
 // Adds v, around 2^32, to the numbers from place p up to an end. Answers up to where they are moved.
 pub fn shift_to(list: &mut [u32], p: usize, end: usize, v: u32) -> usize
@@ -22,7 +22,7 @@ pub fn shift_to(list: &mut [u32], p: usize, end: usize, v: u32) -> usize
 pub fn raise_starts(starts: &mut [u32], n: usize)
     requires { ⌜ n ≤ length (now starts) ⌝ }
     requires { ⌜ length (now starts) ≤ 87382 ⌝ }
-    ensures { λ _. ⌜ Raised (now (starts .entry)) (now (starts .exit)) n ⌝ }
+    ensures { λ _. ⌜ Moved plus (take n (now (starts .entry))) n (now (starts .entry)) (now (starts .exit)) ⌝ }
 {
     let many = starts.len();
     let mut p = n;

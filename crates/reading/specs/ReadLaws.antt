@@ -1,7 +1,7 @@
 -- How where and roster refuse, and how they keep their promises.
 use Prim.Native.Nat.{ℕ, zero, suc, _*_, _<_, _≤_}
 use mathlib.Core.Path.{_≡_, refl, ap, sym, _∙_}
-use mathlib.Core.Bool.{true, false}
+use mathlib.Core.Bool.{Bool, true, false}
 use mathlib.Core.List.{List}
 use native.Mathlib.Nat.{zero-add}
 use native.Mathlib.Omega.{arith}
@@ -58,21 +58,31 @@ module _ (t : Tables) (c : ℕ) where
   pub traces-done : traceRefusal t c ≡ 0 → Traces t c (Traced.At (spotOf t c))
   traces-done e = record { refused = λ f. absurd (f e); done = λ z. refl; says = rw e }
 
+-- ---- three tests, and then one more
+
+-- refused by the three, whatever comes after
+pub three-later : (a b c : Bool) (l m n rest : ℕ) → (unless a l (unless b m (unless c n 0)) ≡ 0 → ⊥) → unless a l (unless b m (unless c n rest)) ≡ unless a l (unless b m (unless c n 0))
+three-later a b c l m n rest f = unless-later a l _ _ f (λ g. unless-later b m _ _ g (λ h. unless-later c n _ _ h (λ k. absurd (k refl))))
+
+-- or by what comes after alone
+pub three-passed : (a b c : Bool) (l m n rest : ℕ) → unless a (suc l) (unless b (suc m) (unless c (suc n) 0)) ≡ 0 → unless a (suc l) (unless b (suc m) (unless c (suc n) rest)) ≡ rest
+three-passed a b c l m n rest e =
+    let p = unless→ a l _ e in
+    let q = unless→ b m _ (p .1) in
+    let r = unless→ c n _ (q .1) in
+    rw (p .0, q .0, r .0)
+
 -- ---- roster
 
 module _ (t : Tables) (z room : ℕ) where
   -- as a removal is refused, or then by the room alone
   pub list-zone : (removeRefusal t z ≡ 0 → ⊥) → listRefusal t z room ≡ removeRefusal t z
   unfolding listRefusal removeRefusal
-  list-zone f = unless-later (sized t) 3 _ _ f (λ g. unless-later (ltb z (zoneRoom t)) 4 _ _ g (λ h. unless-later (stands t z) 7 _ _ h (λ k. absurd (k refl))))
+  list-zone f = three-later (sized t) (ltb z (zoneRoom t)) (stands t z) 3 4 7 _ f
 
   list-room : removeRefusal t z ≡ 0 → listRefusal t z room ≡ unless (leb (carRoom t) room) 11 0
   unfolding listRefusal removeRefusal
-  list-room e =
-      let a = unless→ (sized t) 2 _ e in
-      let b = unless→ (ltb z (zoneRoom t)) 3 _ (a .1) in
-      let c = unless→ (stands t z) 6 _ (b .1) in
-      rw (a .0, b .0, c .0)
+  list-room e = three-passed (sized t) (ltb z (zoneRoom t)) (stands t z) 2 3 6 _ e
 
   pub list-11 : removeRefusal t z ≡ 0 → room < carRoom t → listRefusal t z room ≡ 11
   list-11 e l = list-room e ∙ rw (lt-leb (carRoom t) room l)

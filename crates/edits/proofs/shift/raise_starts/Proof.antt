@@ -1,14 +1,15 @@
-use Prim.Native.Nat.{ℕ, _-_}
+use Prim.Native.Nat.{_-_}
 use native.Mathlib.Omega.{arith}
 use lib.ListN.{take}
 use lib.Seq.{length-take-le}
-use Rattle.edits.specs.ShiftLaws.{Moving, move-begins, move-turns, move-ends, key-there, key-few, raise-ends}
+use Rattle.edits.specs.Shift.{plus}
+use Rattle.edits.specs.ShiftLaws.{Moving, move-begins, move-turns, move-ends, key-there, key-few}
 use borrow.Author.Needs.{needs}
 use Rattle.edits.proofs.shift.raise_starts.Statement.{statement}
 use Rattle.edits.proofs.shift.raise_starts.Tie as tie
 
 abbrev Inv-loop : tie.InvT-loop
-Inv-loop starts₀ n many p₀ j₀ starts p j = Moving (λ (g : ℕ). g) (take n starts₀) starts₀ starts n p j
+Inv-loop starts₀ n many p₀ j₀ starts p j = Moving plus (take n starts₀) starts₀ starts n p j
 
 abbrev μ-loop : tie.MeasureT-loop
 μ-loop starts₀ n many p₀ j₀ starts p j = n - j
@@ -50,7 +51,7 @@ same-length : tie.Need-same-length Inv-loop μ-loop
 same-length c = search needs
 
 returns : tie.Need-returns Inv-loop μ-loop
-returns c = raise-ends (move-ends (c .before .before .before .before .before .loop .inv) (omega (arith, length-take-le (c .before .before .before .before .before .before .before .args .n) (c .before .before .before .before .before .before .before .args .starts .now) (c .before .before .before .before .before .before .before .pre .0))) (c .before .before .shift-to2 .ensures))
+returns c = move-ends (c .before .before .before .before .before .loop .inv) (omega (arith, length-take-le (c .before .before .before .before .before .before .before .args .n) (c .before .before .before .before .before .before .before .args .starts .now) (c .before .before .before .before .before .before .before .pre .0))) (c .before .before .shift-to2 .ensures)
 
 pub raise-starts-spec : {M : Type 1} → statement M
 raise-starts-spec =

@@ -1,6 +1,7 @@
 use Prim.Native.Nat.{_-_}
 use native.Mathlib.Omega.{arith}
-use Rattle.edits.specs.ShiftLaws.{Shifting, shift-begins, shift-turns, shift-ends}
+use Rattle.edits.specs.Shift.{Shifting}
+use Rattle.edits.specs.ShiftLaws.{shift-begins, shift-turns}
 use borrow.Author.Needs.{needs}
 use Rattle.edits.proofs.shift.shift_to.Statement.{statement}
 use Rattle.edits.proofs.shift.shift_to.Tie as tie
@@ -42,7 +43,7 @@ same-length : tie.Need-same-length Inv-loop μ-loop
 same-length c = c .before .loop .inv .long
 
 returns : tie.Need-returns Inv-loop μ-loop
-returns c = shift-ends (c .before .loop .inv) (omega arith)
+returns c = record { part = c .before .loop .inv; reached = omega arith }
 
 pub shift-to-spec : {M : Type 1} → statement M
 shift-to-spec =
