@@ -29,6 +29,58 @@
  *
  * On tables that are not sound (unwadegiro_sound), a call still ends, stays within what it was lent and gives every
  * refusal but 12 as said; what an accepted call answers and writes there is not promised, open, sound and where apart.
+ *
+ * NaNs. The proofs know one NaN, which has no bits of its own. So where a NaN stands in spots, what a call keeps there or
+ * unwadegiro_where gives is proved to be a NaN, but not to have the same bits. A NaN is never on the map, so no call
+ * stores one, and on sound tables no car on the map has one. The check in rust/ compares the bits of the compiled code
+ * all the same: they are kept and given as they stand.
+ *
+ * Cells. The town has W = P * 2^k columns, counted from 0 from the west, and H = Q * 2^k rows, counted from 0 from the
+ * south. The cell of a position is the floor of x and of y: column floor(x), row floor(y). So x = 10.75 is column 10, and
+ * x = 11 is column 11. A position is on the map where 0 <= x < W and 0 <= y < H and neither sign bit is set: -0.0f is not
+ * on the map, nor is an infinity or a NaN.
+ *
+ * Squares. The town is P blocks from west to east times Q from south to north, each of L by L cells, L = 2^k. Level i, for
+ * 0 <= i <= k, splits each block into 4^i squares of side L / 2^i: level 0 is the block, level k the cells. The square of
+ * level i in which the cell (x, y) lies has (all divisions drop the rest)
+ *
+ *   block    x / L + (y / L) * P
+ *   local    of the low k bits of x and of y the top i of each, interleaved, the bit of y above the bit of x of the
+ *            same rank; 0 on level 0
+ *   number   4^i * block + local
+ *
+ * so that the numbers of level i go from 0 to P * Q * 4^i - 1. The local numbers of one block with k = 2, north above:
+ *
+ *       level 2, side 1           level 1, side 2           level 0, side 4
+ *
+ *       +----+----+----+----+     +---------+---------+     +-------------------+
+ *   3   | 10 | 11 | 14 | 15 |     |         |         |     |                   |
+ *       +----+----+----+----+     |    2    |    3    |     |                   |
+ *   2   |  8 |  9 | 12 | 13 |     |         |         |     |                   |
+ *       +----+----+----+----+     +---------+---------+     |         0         |
+ *   1   |  2 |  3 |  6 |  7 |     |         |         |     |                   |
+ *       +----+----+----+----+     |    0    |    1    |     |                   |
+ *   0   |  0 |  1 |  4 |  5 |     |         |         |     |                   |
+ *       +----+----+----+----+     +---------+---------+     +-------------------+
+ *   y
+ *     x    0    1    2    3
+ *
+ * The children of the square with local number s, one level down, have 4s, 4s + 1, 4s + 2, 4s + 3: southwest, southeast,
+ * northwest, northeast. The parent of s has s / 4. The same holds of the numbers themselves.
+ *
+ * With k = 2 and P = Q = 4 (L = 4, W = H = 16) the cell (10, 11) lies in block 10/4 + (11/4) * 4 = 10. In bits x = 10 ends
+ * in 1 0, and y = 11 in 1 1.
+ *
+ *   level 2   bits y x y x = 1 1 1 0   local 14   number 16 * 10 + 14 = 174
+ *   level 1   bits y x     = 1 1       local 3    number  4 * 10 +  3 = 43
+ *   level 0                            local 0    number  1 * 10 +  0 = 10
+ *
+ * Cuts. A rectangle (a, b, w, h) holds the cells with a <= x < a + w and b <= y < b + h. Its cut is every square that lies
+ * wholly inside it and is on level 0 or has a parent that does not. So each of its cells lies in exactly one square of the
+ * cut. In the list of a cut a square is one number, its code: level * UNWADEGIRO_LEVEL + number. The list goes by level,
+ * 0 first, and by rising number within a level, which is by rising code. In the town above the cut of (8, 8, 3, 2) has
+ * three squares: number 40 on level 1, the cells from (8, 8) to (9, 9), and 164 and 166 on level 2, the cells (10, 8) and
+ * (10, 9). Their codes are 1048616, 2097316, 2097318.
  */
 #ifndef UNWADEGIRO_H
 #define UNWADEGIRO_H
@@ -63,7 +115,7 @@ extern "C" {
 #define UNWADEGIRO_MAX_CARS 1024u
 #define UNWADEGIRO_MAX_ENTRIES 16384u
 
-/* In the list of a cut a square is one number: level * UNWADEGIRO_LEVEL + its number on that level. */
+/* The code of a square in the list of a cut: level * UNWADEGIRO_LEVEL + its number on that level. */
 #define UNWADEGIRO_LEVEL 1048576u
 
 /*
@@ -106,9 +158,10 @@ uint32_t unwadegiro_remove(const uint32_t *head, size_t head_len, uint32_t *zone
                            uint8_t *rosters, size_t rosters_len, uint32_t zone);
 
 /*
- * Places a car on the map, or moves it. A position is on the map where 0 <= x < W and 0 <= y < H and no sign bit is set.
- * `entered` gets the zones that hold the new cell and not the old, `left` those that hold the old and not the new; each
- * must have room for as many zones as the zone capacity. A car that was off the map enters all that hold the new cell.
+ * Places a car on the map, or moves it. A position is on the map where 0 <= x < W and 0 <= y < H and no sign bit is set;
+ * its cell is column floor(x), row floor(y). `entered` gets the zones that hold the new cell and not the old, `left`
+ * those that hold the old and not the new; each must have room for as many zones as the zone capacity. A car that was off
+ * the map enters all that hold the new cell.
  * Values, 3: squares looked into (0 where the cell stays the same); how many zones are in `entered`; how many in `left`.
  * Refusals: 3, 5, 10, 11.
  */
@@ -153,7 +206,8 @@ uint32_t unwadegiro_roster(const uint32_t *head, size_t head_len, const uint32_t
 
 /*
  * Where a car is. `position` gets x and y, as far as it goes: the bits that its last accepted report gave. On a refusal
- * it gets 0 and 0.
+ * it gets 0 and 0. On tables that are not sound it gets what stands in spots; where that is a NaN, it is proved that a NaN
+ * comes back, but not with which bits (see NaNs above).
  * Refusals: 3, 5, 8.
  */
 uint32_t unwadegiro_where(const uint32_t *head, size_t head_len, const uint32_t *zones, size_t zones_len,

@@ -14,4 +14,4 @@ pub mod raw;
 
 pub use refusal::Refusal;
 pub use squares::{cut, number, square, Rectangle, Shape, Square, LEVEL};
-pub use town::{Added, Capacities, Departed, Found, Position, Reported, Town};
+pub use town::{Added, Capacities, Left, Found, Position, Reported, Town};

@@ -41,7 +41,7 @@ pub struct Reported<'a> {
 
 /// A car left the map. The zones stand lowest first.
 #[derive(Clone, Copy, Debug, PartialEq, Eq)]
-pub struct Departed<'a> {
+pub struct Left<'a> {
     /// Squares looked into.
     pub squares: u32,
     /// Zones that it was in.
@@ -283,7 +283,7 @@ impl Town {
     }
 
     /// Takes a car off the map. Refusals: [`Refusal::NoSuchCar`], [`Refusal::CarOffMap`].
-    pub fn leave(&mut self, car: u32) -> Result<Departed<'_>, Refusal> {
+    pub fn leave(&mut self, car: u32) -> Result<Left<'_>, Refusal> {
         let mut values = [0; 2];
         call!(
             unwadegiro_leave,
@@ -304,7 +304,7 @@ impl Town {
             values.len()
         )?;
         let [squares, went] = values;
-        Ok(Departed { squares, left: &self.went[..went as usize] })
+        Ok(Left { squares, left: &self.went[..went as usize] })
     }
 
     /// The zones that hold a position. Refusal: [`Refusal::PositionOffMap`].

@@ -230,6 +230,24 @@ fn within(random: &mut Random, cell: u32) -> u32 {
     }
 }
 
+/// A NaN's bits: of either sign, quiet or signalling, with the least payload, the largest, or any.
+pub fn nan(random: &mut Random) -> u32 {
+    let (sign, quiet) = (random.below(2), random.below(2));
+    // without the quiet bit, a payload of 0 would be an infinity's
+    let least = 1 - quiet;
+    let payload = match random.below(4) {
+        0 => least,
+        1 => 0x3F_FFFF,
+        _ => random.between(least, 0x3F_FFFF),
+    };
+    sign << 31 | 0x7F80_0000 | quiet << 22 | payload
+}
+
+/// Whether bits are a NaN's, told without a float.
+pub fn is_nan(bits: u32) -> bool {
+    bits & 0x7FFF_FFFF > 0x7F80_0000
+}
+
 /// A coordinate's bits that the map may not have.
 fn odd(random: &mut Random, side: u32) -> u32 {
     let end = (side as f32).to_bits();
@@ -240,8 +258,7 @@ fn odd(random: &mut Random, side: u32) -> u32 {
         3 => 0x8000_0000,
         4 => 0x8000_0000 | within(random, 0),
         5 => random.pick(&[0x7F80_0000, 0xFF80_0000]),
-        6 => 0x7F80_0000 | random.between(1, 0x7F_FFFF),
-        7 => 0xFF80_0000 | random.between(1, 0x7F_FFFF),
+        6..=7 => nan(random),
         8 => random.between(1, 0x7F_FFFF),
         9 => random.pick(&[1, 0x007F_FFFF, 0x0080_0000, 0x3F7F_FFFF, 0x3F80_0000, 0x437F_FFFF, 0x4380_0000]),
         10 => 0x7F7F_FFFF,

@@ -2,12 +2,15 @@
 
 use crate::calls::Call;
 use crate::random::Random;
+use std::ops::Range;
 use std::ptr;
 use unwadegiro::raw;
 
 const GUARD: usize = 24;
 /// How much longer than its length a slice can be lent.
 pub const SLACK: usize = 8;
+/// Which of the tables the spots are.
+pub const SPOTS: usize = 3;
 
 pub trait Word: Copy + PartialEq {
     fn random(random: &mut Random) -> Self;
@@ -96,10 +99,14 @@ impl<T: Word> Lent<T> {
 
     /// Takes what stands there as right. Answers whether the bytes around it are.
     pub fn accept(&mut self) -> bool {
-        let own = GUARD..GUARD + self.own;
-        let (memory, image) = (&self.memory, &mut self.image);
-        image[own.clone()].copy_from_slice(&memory[own]);
+        self.accept_part(0..self.own);
         self.right()
+    }
+
+    /// Takes what stands in a part of it as right.
+    fn accept_part(&mut self, part: Range<usize>) {
+        let part = GUARD + part.start..GUARD + part.end;
+        self.image[part.clone()].copy_from_slice(&self.memory[part]);
     }
 }
 
@@ -178,12 +185,19 @@ impl Tables {
         right.into_iter().filter(|table| !table.0).map(|table| table.1).collect()
     }
 
-    /// Takes as right what stands in the tables that a call may change.
+    /// Takes as right what stands in the tables that a call may change, but of the spots only its own car's.
     pub fn accept(&mut self, call: &Call) {
         let changed = call.changes();
         for (at, table) in self.words().into_iter().enumerate() {
-            if changed[at] {
-                table.accept();
+            match *call {
+                Call::Report { car, .. } if at == SPOTS => {
+                    let first = 2 * car as usize;
+                    table.accept_part(first..first + 2);
+                }
+                _ if changed[at] => {
+                    table.accept();
+                }
+                _ => {}
             }
         }
         if changed[6] {

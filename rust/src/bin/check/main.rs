@@ -10,7 +10,7 @@ mod random;
 
 use brute::{Answer, Brute};
 use calls::{Call, Size, KINDS};
-use lent::{Lent, Tables, SLACK};
+use lent::{Lent, Tables, SLACK, SPOTS};
 use random::Random;
 use std::{env, process};
 use unwadegiro::{Capacities, Shape};
@@ -31,6 +31,8 @@ struct Check {
     // how often each kind of call got each number
     seen: [[u64; 14]; 13],
     sound_said: [u64; 2],
+    // how many NaNs `where` gave back: signalling and quiet with the sign bit clear, then the same with it set
+    nans: [u64; 4],
 }
 
 /// Says what was wrong, and ends.
@@ -47,7 +49,8 @@ impl Check {
         let mut random = Random::new(seed);
         let town = Brute::new(Shape { k: 0, p: 1, q: 1 }, Capacities { zones: 1, cars: 1, entries: 1 });
         let tables = Tables::noise(layout::lengths(town.shape, town.room), &mut random);
-        Check { random, tables, town, state: State::Any, made: 0, seen: [[0; 14]; 13], sound_said: [0; 2] }
+        let (seen, sound_said, nans) = ([[0; 14]; 13], [0; 2], [0; 4]);
+        Check { random, tables, town, state: State::Any, made: 0, seen, sound_said, nans }
     }
 
     /// Lends one table with a wrong length, now and then.
@@ -152,9 +155,21 @@ impl Check {
             self.apply(&call);
         }
         self.compare(&call, returned, &answer, &mut buffers, &mut values);
+        if matches!(call, Call::Where { .. }) && returned == 0 {
+            self.count_nans(values.now());
+        }
     }
 
-    /// Where an accepted call on unsound tables may write anything: it stayed within what it was lent.
+    /// Counts the NaNs of a position by their kind.
+    fn count_nans(&mut self, values: &[u32]) {
+        for &bits in values.iter().take(2).filter(|&&bits| calls::is_nan(bits)) {
+            let (sign, quiet) = (bits >> 31, bits >> 22 & 1);
+            self.nans[(2 * sign + quiet) as usize] += 1;
+        }
+    }
+
+    /// Where an accepted call on unsound tables may write anything: it stayed within what it was lent, and every spot but
+    /// that of a report's own car has the bits that it had.
     fn compare_gap(&mut self, call: &Call, buffers: &mut [Lent<u32>], values: &mut Lent<u32>) {
         self.tables.accept(call);
         let wrong = self.tables.wrong();
@@ -182,10 +197,7 @@ impl Check {
             }
         }
         for at in 0..call.kind().fields.min(values.own()) {
-            let should = if done { answer.values[at] } else { 0 };
-            // a NaN may come back with other bits
-            let nan = f32::from_bits(should).is_nan() && f32::from_bits(values.now()[at]).is_nan();
-            values.image()[at] = if nan && matches!(call, Call::Where { .. }) { values.now()[at] } else { should };
+            values.image()[at] = if done { answer.values[at] } else { 0 };
         }
         if !values.right() {
             fail(call, &format!("the values should be {:?}, and are {:?}", answer.values, values.now()), self);
@@ -286,7 +298,10 @@ impl Check {
             self.tables.zones.put(4 * zone + random.pick(&[0, 1, 3]), random.bits());
         }
         match self.town.cars[car] {
-            None => self.tables.spots.put(2 * car + random.below(2) as usize, random.bits()),
+            None => {
+                let bits = if random.once_in(2) { calls::nan(random) } else { random.bits() };
+                self.tables.spots.put(2 * car + random.below(2) as usize, bits);
+            }
             Some(_) => self.tables.cars.put(car, random.between(1, u32::MAX - 1)),
         }
     }
@@ -314,6 +329,7 @@ impl Check {
             for turn in 0..times {
                 let at = if times == own[table] { turn } else { random.below(own[table] as u32) as usize };
                 let word = match random.below(4) {
+                    0 if table == SPOTS && random.once_in(2) => calls::nan(random),
                     0 => random.bits(),
                     1 => random.below(4),
                     2 => random.below(300),
@@ -324,6 +340,23 @@ impl Check {
                     _ => self.tables.words()[table].put(at, word),
                 }
             }
+        }
+    }
+
+    /// Places cars on NaNs, in x or y or both, and asks where they are.
+    fn place_on_nans(&mut self) {
+        for _ in 0..8 {
+            let random = &mut self.random;
+            let car = random.below(self.tables.cars.own() as u32);
+            self.tables.cars.put(car as usize, random.between(1, u32::MAX - 1));
+            let first = 2 * car as usize;
+            let which = random.between(1, 3);
+            for side in 0..2 {
+                if which >> side & 1 == 1 {
+                    self.tables.spots.put(first + side, calls::nan(random));
+                }
+            }
+            self.make(Call::Where { car });
         }
     }
 
@@ -369,6 +402,9 @@ impl Check {
             if self.random.once_in(20) || self.state == State::Sound {
                 self.spoil();
                 self.ask_sound();
+                if self.random.once_in(2) {
+                    self.place_on_nans();
+                }
             }
             let call = calls::call(&mut self.random, &self.town);
             self.make(call);
@@ -399,7 +435,9 @@ impl Check {
             all &= seen[0] > 0;
         }
         println!("of changed tables {} were sound and {} were not", self.sound_said[1], self.sound_said[0]);
-        all && self.sound_said[0] > 0 && self.sound_said[1] > 0
+        let [plus, plus_quiet, minus, minus_quiet] = self.nans;
+        println!("NaNs given back by where: +signalling {plus}, +quiet {plus_quiet}, -signalling {minus}, -quiet {minus_quiet}");
+        all && self.sound_said.iter().chain(&self.nans).all(|&times| times > 0)
     }
 }
 
@@ -438,7 +476,7 @@ fn main() {
         check.made
     );
     if !all && calls >= 1_000_000 {
-        println!("but some number that can be given was never given");
+        println!("but some number, or some kind of NaN, that can be given was never given");
         process::exit(1);
     }
 }
