@@ -1,11 +1,12 @@
-// Search, roster and soundness.
+// Search, roster, where a car is, and soundness.
 use position::Position;
-use telling::tell_judged;
-use telling::tell_listed;
-use telling::tell_searched;
-ghost use Rattle.tables.specs.Tables.{tables};
-ghost use Rattle.promises.specs.Promises.{Searches, searchedSays, Lists, listedSays, Judges, judgedSays};
-ghost use Rattle.telling.specs.Promises.{point, Told};
+use values::tell_roster;
+use values::tell_searched;
+use values::tell_soundness;
+use values::tell_where;
+ghost use Rattle.tables.specs.Lent.{lent};
+ghost use Rattle.promises.specs.Events.{searched, rosterTold, soundnessTold};
+ghost use Rattle.boundary.specs.Promises.{point, Relays, Pointed};
 
 // Two values: the squares looked into, the zones found.
 #[no_mangle]
@@ -22,10 +23,20 @@ pub extern "C" fn unwadegiro_search(
     found: &mut [u32],
     values: &mut [u32],
 ) -> u32
-    ensures { λ r'. ⌜ Told (Searches (tables (now (head .entry)) (now (zones .entry)) (now (cars .entry)) (now (spots .entry)) (now (starts .entry)) (now (entries .entry)) (now (rosters .entry))) (point x y) (now (found .entry)) (now (found .exit))) searchedSays (now (values .entry)) (now (values .exit)) r' ⌝ }
+    ensures { λ r'. ⌜ Relays 2 (lent head zones cars spots starts entries rosters) (searched (point x y) found) (now (values .entry)) (now (values .exit)) r' ⌝ }
 {
     let p = Position { x, y };
-    let searched = town::search_zones(head, zones, cars, spots, starts, entries, rosters, p, found);
+    let searched = readings::search_zones(
+        head,
+        zones,
+        cars,
+        spots,
+        starts,
+        entries,
+        rosters,
+        p,
+        found,
+    );
     tell_searched(searched, values)
 }
 
@@ -43,9 +54,9 @@ pub extern "C" fn unwadegiro_roster(
     inside: &mut [u32],
     values: &mut [u32],
 ) -> u32
-    ensures { λ r'. ⌜ Told (Lists (tables (now (head .entry)) (now (zones .entry)) (now (cars .entry)) (now (spots .entry)) (now (starts .entry)) (now (entries .entry)) (now (rosters .entry))) zone (now (inside .entry)) (now (inside .exit))) listedSays (now (values .entry)) (now (values .exit)) r' ⌝ }
+    ensures { λ r'. ⌜ Relays 1 (lent head zones cars spots starts entries rosters) (rosterTold zone inside) (now (values .entry)) (now (values .exit)) r' ⌝ }
 {
-    let listed = town::list_roster(
+    let roster = readings::roster_of_zone(
         head,
         zones,
         cars,
@@ -56,7 +67,26 @@ pub extern "C" fn unwadegiro_roster(
         zone,
         inside,
     );
-    tell_listed(listed, values)
+    tell_roster(roster, values)
+}
+
+// The position's two coordinates; 0 and 0 on a refusal.
+#[no_mangle]
+pub extern "C" fn unwadegiro_where(
+    head: &[u32],
+    zones: &[u32],
+    cars: &[u32],
+    spots: &[f32],
+    starts: &[u32],
+    entries: &[u32],
+    rosters: &[u8],
+    car: u32,
+    position: &mut [f32],
+) -> u32
+    ensures { λ r'. ⌜ Pointed (lent head zones cars spots starts entries rosters) car (now (position .entry)) (now (position .exit)) r' ⌝ }
+{
+    let found = readings::where_is_car(head, zones, cars, spots, starts, entries, rosters, car);
+    tell_where(found, position)
 }
 
 // One value: 1 where the tables are sound, 0 where they are not.
@@ -71,8 +101,8 @@ pub extern "C" fn unwadegiro_sound(
     rosters: &[u8],
     values: &mut [u32],
 ) -> u32
-    ensures { λ r'. ⌜ Told (Judges (tables (now (head .entry)) (now (zones .entry)) (now (cars .entry)) (now (spots .entry)) (now (starts .entry)) (now (entries .entry)) (now (rosters .entry)))) judgedSays (now (values .entry)) (now (values .exit)) r' ⌝ }
+    ensures { λ r'. ⌜ Relays 1 (lent head zones cars spots starts entries rosters) soundnessTold (now (values .entry)) (now (values .exit)) r' ⌝ }
 {
-    let judged = town::judge_town(head, zones, cars, spots, starts, entries, rosters);
-    tell_judged(judged, values)
+    let soundness = readings::soundness_of_town(head, zones, cars, spots, starts, entries, rosters);
+    tell_soundness(soundness, values)
 }

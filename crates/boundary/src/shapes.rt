@@ -1,12 +1,15 @@
 // The calls without tables.
 use squares::Rect;
 use squares::Shape;
-use telling::tell_cut;
-use telling::tell_located;
-use telling::tell_numbered;
-use telling::tell_seven;
-ghost use Rattle.squares.specs.Promises.{Numbers, numberedSays, Locates, locatedSays, Cuts, cutSays};
-ghost use Rattle.telling.specs.Promises.{shape, rect, Tells, Told, lengthsSaid};
+use squares::Shaped;
+use values::tell_cut;
+use values::tell_number;
+use values::tell_seven;
+use values::tell_square;
+ghost use mathlib.Core.List.{[], _∷_};
+ghost use Rattle.squares.specs.Shape.{shape};
+ghost use Rattle.squares.specs.Promises.{numberGives, squareGives, cutGives};
+ghost use Rattle.boundary.specs.Promises.{rect, Gives, lengthsGives};
 
 // Seven values: the lengths of the tables.
 #[no_mangle]
@@ -19,12 +22,11 @@ pub extern "C" fn unwadegiro_lengths(
     entries: u32,
     values: &mut [u32],
 ) -> u32
-    ensures { λ r'. ⌜ Tells (lengthsSaid (shape k P Q) zones cars entries) (now (values .entry)) (now (values .exit)) r' ⌝ }
+    ensures { λ r'. ⌜ Gives 7 (lengthsGives (shape k P Q) zones cars entries) [] (now (values .entry)) (now (values .exit)) r' ⌝ }
 {
-    let s = Shape { k, P, Q };
-    if !s.allowed() {
+    let Shaped::Allowed(s) = Shape::new(k, P, Q) else {
         return tell_seven(1, 0, 0, 0, 0, 0, 0, 0, values);
-    }
+    };
     if !tables::roomy(zones, cars, entries) {
         return tell_seven(2, 0, 0, 0, 0, 0, 0, 0, values);
     }
@@ -55,10 +57,9 @@ pub extern "C" fn unwadegiro_number(
     y: u32,
     values: &mut [u32],
 ) -> u32
-    ensures { λ r'. ⌜ Told (Numbers (shape k P Q) level x y) numberedSays (now (values .entry)) (now (values .exit)) r' ⌝ }
+    ensures { λ r'. ⌜ Gives 1 (numberGives (shape k P Q) level x y) [] (now (values .entry)) (now (values .exit)) r' ⌝ }
 {
-    let numbered = squares::number_square(Shape { k, P, Q }, level, x, y);
-    tell_numbered(numbered, values)
+    tell_number(squares::number_of_square(k, P, Q, level, x, y), values)
 }
 
 // Three values: the corner's column and row, the side.
@@ -71,10 +72,9 @@ pub extern "C" fn unwadegiro_square(
     number: u32,
     values: &mut [u32],
 ) -> u32
-    ensures { λ r'. ⌜ Told (Locates (shape k P Q) level number) locatedSays (now (values .entry)) (now (values .exit)) r' ⌝ }
+    ensures { λ r'. ⌜ Gives 3 (squareGives (shape k P Q) level number) [] (now (values .entry)) (now (values .exit)) r' ⌝ }
 {
-    let located = squares::locate_square(Shape { k, P, Q }, level, number);
-    tell_located(located, values)
+    tell_square(squares::square_of_number(k, P, Q, level, number), values)
 }
 
 // One value: the squares written.
@@ -90,10 +90,8 @@ pub extern "C" fn unwadegiro_cut(
     squares: &mut [u32],
     values: &mut [u32],
 ) -> u32
-    ensures { λ r'. ⌜ Told (Cuts (shape k P Q) (rect a b w h) (now (squares .entry)) (now (squares .exit))) cutSays (now (values .entry)) (now (values .exit)) r' ⌝ }
+    ensures { λ r'. ⌜ Gives 1 (cutGives (shape k P Q) (rect a b w h) (now (squares .entry))) (now (squares .exit) ∷ []) (now (values .entry)) (now (values .exit)) r' ⌝ }
 {
-    let s = Shape { k, P, Q };
     let r = Rect { a, b, w, h };
-    let cut = squares::cut_rectangle(s, r, squares);
-    tell_cut(cut, values)
+    tell_cut(squares::cut_of_rectangle(k, P, Q, r, squares), values)
 }

@@ -7,11 +7,11 @@ use libc::STDOUT_FILENO;
 use position::Coordinate;
 use position::Position;
 use position::Spot;
-use squares::Cut;
-use squares::Located;
-use squares::Numbered;
+use squares::CutOf;
+use squares::NumberOf;
 use squares::Rect;
 use squares::Shape;
+use squares::SquareOf;
 
 pub fn text(bytes: &[u8]) {
     io::write_all(STDOUT_FILENO, bytes);
@@ -40,9 +40,9 @@ fn number_of(s: Shape, level: u32, x: u32, y: u32) {
     number(x as u64);
     number(y as u64);
     text(b" ->");
-    match squares::number_square(s, level, x, y) {
-        Numbered::Refused(n) => number(n as u64),
-        Numbered::Number(n) => {
+    match squares::number_of_square(s.k, s.P, s.Q, level, x, y) {
+        NumberOf::Refused(n) => number(n as u64),
+        NumberOf::Number(n) => {
             number(0);
             number(n as u64);
         }
@@ -56,9 +56,9 @@ fn square_of(s: Shape, level: u32, n: u32) {
     number(level as u64);
     number(n as u64);
     text(b" ->");
-    match squares::locate_square(s, level, n) {
-        Located::Refused(r) => number(r as u64),
-        Located::At(q) => {
+    match squares::square_of_number(s.k, s.P, s.Q, level, n) {
+        SquareOf::Refused(r) => number(r as u64),
+        SquareOf::Square(q) => {
             number(0);
             number(q.x as u64);
             number(q.y as u64);
@@ -99,9 +99,9 @@ fn cut_into(s: Shape, r: Rect, out: &mut [u32]) {
     number(r.w as u64);
     number(r.h as u64);
     text(b" ->");
-    match squares::cut_rectangle(s, r, out) {
-        Cut::Refused(n) => number(n as u64),
-        Cut::Listed(n) => {
+    match squares::cut_of_rectangle(s.k, s.P, s.Q, r, out) {
+        CutOf::Refused(n) => number(n as u64),
+        CutOf::Listed(n) => {
             number(0);
             number(n as u64);
         }

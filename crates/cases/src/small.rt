@@ -3,15 +3,15 @@ use crate::bracket;
 use crate::end;
 use crate::number;
 use crate::text;
+use model::Opened;
+use model::RosterOf;
+use model::Searched;
+use model::SoundnessOf;
+use model::WhereIs;
 use position::Position;
 use position::Spot;
 use position::float_of;
 use squares::Shape;
-use town::Judged;
-use town::Listed;
-use town::Opened;
-use town::Searched;
-use town::Traced;
 
 // The tables of one block of four cells: 2 zones, 2 cars, 4 entries, 5 squares.
 pub struct Small {
@@ -40,16 +40,16 @@ fn standing() -> Small {
     }
 }
 
-fn say(answer: Judged) {
+fn say(answer: SoundnessOf) {
     match answer {
-        Judged::Refused(n) => number(n as u64),
-        Judged::Sound => text(b" 0 yes"),
-        Judged::Unsound => text(b" 0 no"),
+        SoundnessOf::Refused(n) => number(n as u64),
+        SoundnessOf::Sound => text(b" 0 yes"),
+        SoundnessOf::Unsound => text(b" 0 no"),
     }
     end();
 }
 
-fn judged(t: Small) {
+fn soundness(t: Small) {
     let head = t.head;
     let zones = t.zones;
     let cars = t.cars;
@@ -58,7 +58,7 @@ fn judged(t: Small) {
     let entries = t.entries;
     let rosters = t.rosters;
     text(b" sound ->");
-    say(town::judge_town(&head, &zones, &cars, &spots, &starts, &entries, &rosters));
+    say(readings::soundness_of_town(&head, &zones, &cars, &spots, &starts, &entries, &rosters));
 }
 
 fn opened() {
@@ -70,10 +70,9 @@ fn opened() {
     let mut entries = [7u32; 4];
     let mut rosters = [7u8; 4];
     text(b"garbage: sound ->");
-    say(town::judge_town(&head, &zones, &cars, &spots, &starts, &entries, &rosters));
+    say(readings::soundness_of_town(&head, &zones, &cars, &spots, &starts, &entries, &rosters));
     text(b"open 1 1 1: 2 2 4 ->");
-    let s = Shape { k: 1, P: 1, Q: 1 };
-    match town::open_town(
+    match zones::open_town(
         &mut head,
         &mut zones,
         &mut cars,
@@ -81,7 +80,9 @@ fn opened() {
         &mut starts,
         &mut entries,
         &mut rosters,
-        s,
+        1,
+        1,
+        1,
         2,
         2,
         4,
@@ -91,7 +92,7 @@ fn opened() {
     }
     end();
     text(b"opened: sound ->");
-    say(town::judge_town(&head, &zones, &cars, &spots, &starts, &entries, &rosters));
+    say(readings::soundness_of_town(&head, &zones, &cars, &spots, &starts, &entries, &rosters));
 }
 
 fn search(x: u32, y: u32, out: &mut [u32]) {
@@ -111,7 +112,7 @@ fn search(x: u32, y: u32, out: &mut [u32]) {
         x: float_of(x),
         y: float_of(y),
     };
-    match town::search_zones(
+    match readings::search_zones(
         &head,
         &zones,
         &cars,
@@ -144,7 +145,7 @@ fn roster(zone: u32, out: &mut [u32]) {
     text(b"roster");
     number(zone as u64);
     text(b" ->");
-    match town::list_roster(
+    match readings::roster_of_zone(
         &head,
         &zones,
         &cars,
@@ -155,8 +156,8 @@ fn roster(zone: u32, out: &mut [u32]) {
         zone,
         out,
     ) {
-        Listed::Refused(n) => number(n as u64),
-        Listed::Cars(cars) => {
+        RosterOf::Refused(n) => number(n as u64),
+        RosterOf::Cars(cars) => {
             number(0);
             number(cars as u64);
         }
@@ -164,7 +165,7 @@ fn roster(zone: u32, out: &mut [u32]) {
     bracket(out);
 }
 
-fn trace(car: u32) {
+fn where_car(car: u32) {
     let t = standing();
     let head = t.head;
     let zones = t.zones;
@@ -176,7 +177,7 @@ fn trace(car: u32) {
     text(b"where");
     number(car as u64);
     text(b" ->");
-    match town::trace_car(
+    match readings::where_is_car(
         &head,
         &zones,
         &cars,
@@ -186,8 +187,8 @@ fn trace(car: u32) {
         &rosters,
         car,
     ) {
-        Traced::Refused(n) => number(n as u64),
-        Traced::At(p) => match position::locate(Shape { k: 1, P: 1, Q: 1 }, p) {
+        WhereIs::Refused(n) => number(n as u64),
+        WhereIs::At(p) => match position::locate(Shape { k: 1, P: 1, Q: 1 }, p) {
             Spot::Off => text(b" 0 -"),
             Spot::Cell(column, row) => {
                 number(0);
@@ -212,9 +213,9 @@ fn reads() {
     let mut short = [7u32; 1];
     search(0x3F00_0000, 0x0000_0000, &mut short);
     roster(1, &mut short);
-    trace(0);
-    trace(1);
-    trace(2);
+    where_car(0);
+    where_car(1);
+    where_car(2);
 }
 
 // Records that mean nothing do not matter; every other number does.
@@ -224,23 +225,23 @@ fn records() {
     idle.zones[3] = 9;
     idle.spots[2] = float_of(0x7FC0_0000);
     text(b"idle records");
-    judged(idle);
+    soundness(idle);
     let mut beyond = standing();
     beyond.zones[4] = 4294967295;
     text(b"rectangle beyond the town");
-    judged(beyond);
+    soundness(beyond);
     let mut lost = standing();
     lost.spots[0] = float_of(0x7FC0_0000);
     text(b"position not on the map");
-    judged(lost);
+    soundness(lost);
     let mut moved = standing();
     moved.spots[1] = float_of(0x3FC0_0000);
     text(b"car elsewhere");
-    judged(moved);
+    soundness(moved);
     let mut capacity = standing();
     capacity.head[5] = 5;
     text(b"capacity and length apart");
-    judged(capacity);
+    soundness(capacity);
 }
 
 fn derived() {
@@ -248,38 +249,38 @@ fn derived() {
     swapped.entries[0] = 513;
     swapped.entries[1] = 257;
     text(b"keys out of order");
-    judged(swapped);
+    soundness(swapped);
     let mut twice = standing();
     twice.entries[2] = 513;
     twice.starts[5] = 3;
     text(b"an entry twice");
-    judged(twice);
+    soundness(twice);
     let mut unmarked = standing();
     unmarked.entries[3] = 0;
     text(b"a free mark too few");
-    judged(unmarked);
+    soundness(unmarked);
     let mut overlapping = standing();
     overlapping.starts[2] = 0;
     text(b"runs that overlap");
-    judged(overlapping);
+    soundness(overlapping);
     let mut high = standing();
     high.starts[5] = 4294967295;
     text(b"a start past the end");
-    judged(high);
+    soundness(high);
     let mut byte = standing();
     byte.rosters[2] = 2;
     text(b"a roster byte of 2");
-    judged(byte);
+    soundness(byte);
     let mut missing = standing();
     missing.rosters[2] = 0;
     text(b"a car missing");
-    judged(missing);
+    soundness(missing);
 }
 
 pub fn small_town() {
     opened();
     text(b"standing");
-    judged(standing());
+    soundness(standing());
     reads();
     records();
     derived();

@@ -4,17 +4,17 @@ use crate::bracket;
 use crate::end;
 use crate::number;
 use crate::text;
+use model::Added;
+use model::Left;
+use model::Opened;
+use model::Removed;
+use model::Reported;
+use model::RosterOf;
+use model::SoundnessOf;
 use position::Position;
 use position::float_of;
 use squares::Rect;
 use squares::Shape;
-use town::Added;
-use town::Departed;
-use town::Judged;
-use town::Listed;
-use town::Opened;
-use town::Removed;
-use town::Reported;
 
 fn say_sound(
     head: &[u32],
@@ -25,10 +25,10 @@ fn say_sound(
     entries: &[u32],
     rosters: &[u8],
 ) {
-    match town::judge_town(head, zones, cars, spots, starts, entries, rosters) {
-        Judged::Refused(n) => number(n as u64),
-        Judged::Sound => text(b" sound"),
-        Judged::Unsound => text(b" unsound"),
+    match readings::soundness_of_town(head, zones, cars, spots, starts, entries, rosters) {
+        SoundnessOf::Refused(n) => number(n as u64),
+        SoundnessOf::Sound => text(b" sound"),
+        SoundnessOf::Unsound => text(b" unsound"),
     }
     end();
 }
@@ -44,7 +44,7 @@ fn open(
     s: Shape,
 ) {
     text(b"M ->");
-    match town::open_town(
+    match zones::open_town(
         head,
         zones,
         cars,
@@ -52,7 +52,9 @@ fn open(
         starts,
         entries,
         rosters,
-        s,
+        s.k,
+        s.P,
+        s.Q,
         16,
         64,
         2048,
@@ -77,7 +79,7 @@ fn add(
     text(b"A");
     number(zone as u64);
     text(b" ->");
-    match town::add_zone(head, zones, cars, spots, starts, entries, rosters, zone, r) {
+    match zones::add_zone(head, zones, cars, spots, starts, entries, rosters, zone, r) {
         Added::Refused(n) => number(n as u64),
         Added::Done(squares, inside) => {
             number(0);
@@ -101,7 +103,7 @@ fn remove(
     text(b"D");
     number(zone as u64);
     text(b" ->");
-    match town::remove_zone(head, zones, cars, spots, starts, entries, rosters, zone) {
+    match zones::remove_zone(head, zones, cars, spots, starts, entries, rosters, zone) {
         Removed::Refused(n) => number(n as u64),
         Removed::Done => number(0),
     }
@@ -129,7 +131,7 @@ fn report(
     text(b"P");
     number(car as u64);
     text(b" ->");
-    match town::report_car(
+    match cars::report_car(
         head,
         zones,
         cars,
@@ -169,7 +171,7 @@ fn leave(
     text(b"L");
     number(car as u64);
     text(b" ->");
-    match town::leave_town(
+    match cars::leave_map(
         head,
         zones,
         cars,
@@ -180,8 +182,8 @@ fn leave(
         car,
         &mut left,
     ) {
-        Departed::Refused(n) => number(n as u64),
-        Departed::Done(squares, gone) => {
+        Left::Refused(n) => number(n as u64),
+        Left::Done(squares, gone) => {
             number(0);
             number(squares as u64);
             number(gone as u64);
@@ -205,7 +207,7 @@ fn roster(
     text(b"R");
     number(zone as u64);
     text(b" ->");
-    match town::list_roster(
+    match readings::roster_of_zone(
         head,
         zones,
         cars,
@@ -216,8 +218,8 @@ fn roster(
         zone,
         &mut out,
     ) {
-        Listed::Refused(n) => number(n as u64),
-        Listed::Cars(n) => {
+        RosterOf::Refused(n) => number(n as u64),
+        RosterOf::Cars(n) => {
             number(0);
             number(n as u64);
         }

@@ -23,7 +23,9 @@ use Rattle.tables.specs.Steps.{zoned, withoutZone}
 use Rattle.edits.specs.Edits.{Reaches, ofZone, ofOther, own, others, dropped, Packed, Drops}
 use Rattle.edits.specs.Shift.{shifted, less, Shifts, Moved}
 use Rattle.edits.specs.ZoneLaws.{on-without}
+use Rattle.tables.specs.RecordLaws.{entries-fresh}
 use Rattle.tables.specs.RunLaws.{start-at, start-within}
+use Rattle.tables.specs.CheckLaws.{size-of}
 use Rattle.tables.specs.RowLaws.{mapped}
 use Rattle.edits.specs.RankLaws.{rank-kept}
 use Rattle.edits.specs.ShiftLaws.{Moving, move-begins, move-turns, move-ends, less-more}
@@ -168,34 +170,34 @@ length-parts z (key ∷ l) = go (ofZone z key) (length-parts z l)
 
 module _ {t : Tables} (sound : Sound t) (z : ℕ) where
   -- the keys of other zones are those of the tables without zone z
-  keys-without : (p : ℕ) → others z (keysTo t p) ≡ keysTo (zoned t (withoutZone (t .zones) z)) p
+  keys-without : (p : ℕ) → others z (keysTo t p) ≡ keysTo (zoned t (withoutZone (t .records .zones) z)) p
   keys-without p =
       keep-keep (ofOther z) (on t) (upto (p * 256))
-      ∙ keep-ext (λ (k : ℕ). on t k && ofOther z k) (on (zoned t (withoutZone (t .zones) z))) (upto (p * 256)) (λ k m. sym (on-without t z k))
+      ∙ keep-ext (λ (k : ℕ). on t k && ofOther z k) (on (zoned t (withoutZone (t .records .zones) z))) (upto (p * 256)) (λ k m. sym (on-without t z k))
 
   -- the starts lowered by zone z's keys are those of the tables without zone z
-  pub lower-sound : {s : List ℕ} → Moved less (own z (t .entries)) 0 (t .starts) s → s ≡ startsOf (zoned t (withoutZone (t .zones) z))
-  lower-sound {s} low = mapped s (λ (p : ℕ). length (keysTo (zoned t (withoutZone (t .zones) z)) p)) (squares (shapeOf t) + 1) (low .long ∙ sound .size .lengths .starts) start
+  pub lower-sound : {s : List ℕ} → Moved less (own z (t .derived .entries)) 0 (t .derived .starts) s → s ≡ startsOf (zoned t (withoutZone (t .records .zones) z))
+  lower-sound {s} low = mapped s (λ (p : ℕ). length (keysTo (zoned t (withoutZone (t .records .zones) z)) p)) (squares (shapeOf t) + 1) (low .long ∙ size-of sound .lengths .starts) start
     where
-      start : (p : ℕ) → p < squares (shapeOf t) + 1 → getD s p 0 ≡ length (keysTo (zoned t (withoutZone (t .zones) z)) p)
+      start : (p : ℕ) → p < squares (shapeOf t) + 1 → getD s p 0 ≡ length (keysTo (zoned t (withoutZone (t .records .zones) z)) p)
       start p h =
           let n = length (keysTo t p) in
           let m = length (own z (keysTo t p)) in
-          let was : getD (t .starts) p 0 ≡ n = start-at sound p (omega arith) in
-          let gone : rank (p * 256) (own z (t .entries)) ≡ m = ap (λ (l : List ℕ). rank (p * 256) (own z l)) (sound .entries) ∙ rank-kept t (sound .size) (ofZone z) p (omega arith) in
-          let left : length (others z (keysTo t p)) ≡ length (keysTo (zoned t (withoutZone (t .zones) z)) p) = ap length (keys-without p) in
-          low .each p (omega arith) (omega (arith, sound .size .lengths .starts)) ∙ ap₂ (λ (v x : ℕ). shifted (less v) x) gone was
-          ∙ omega (arith, left, length-parts z (keysTo t p), start-within sound p (omega arith), sound .size .lengths .entries, sound .size .room .entries-few)
+          let was : getD (t .derived .starts) p 0 ≡ n = start-at sound p (omega arith) in
+          let gone : rank (p * 256) (own z (t .derived .entries)) ≡ m = ap (λ (l : List ℕ). rank (p * 256) (own z l)) (entries-fresh sound) ∙ rank-kept t (size-of sound) (ofZone z) p (omega arith) in
+          let left : length (others z (keysTo t p)) ≡ length (keysTo (zoned t (withoutZone (t .records .zones) z)) p) = ap length (keys-without p) in
+          low .each p (omega arith) (omega (arith, size-of sound .lengths .starts)) ∙ ap₂ (λ (v x : ℕ). shifted (less v) x) gone was
+          ∙ omega (arith, left, length-parts z (keysTo t p), start-within sound p (omega arith), size-of sound .lengths .entries, size-of sound .room .entries-few)
 
   -- the entries without zone z's keys are those of the tables without zone z
-  pub drop-sound : dropped z (t .entries) ≡ entriesOf (zoned t (withoutZone (t .zones) z))
+  pub drop-sound : dropped z (t .derived .entries) ≡ entriesOf (zoned t (withoutZone (t .records .zones) z))
   drop-sound =
-      let u = used (zoned t (withoutZone (t .zones) z)) in
+      let u = used (zoned t (withoutZone (t .records .zones) z)) in
       let m = marks z (entryRoom t - length (used t)) in
-      let o : others z (t .entries) ≡ u ++ replicate (m .0) free = ap (others z) (sound .entries) ∙ keep-append (ofOther z) (used t) (replicate (entryRoom t - length (used t)) free) ∙ rw (keys-without (squares (shapeOf t)), m .2) in
-      let n : length (others z (t .entries)) ≡ length u + m .0 = ap length o ∙ length-append u (replicate (m .0) free) ∙ ap (λ (k : ℕ). length u + k) (length-replicate (m .0) free) in
-      let room : m .0 + (length (t .entries) - length (others z (t .entries))) ≡ entryRoom t - length u =
-      omega (arith, n, m .1, ap length (keys-without (squares (shapeOf t))), length-keep (ofOther z) (used t), ap length (sound .entries), length-append (used t) (replicate (entryRoom t - length (used t)) free), length-replicate (entryRoom t - length (used t)) free, sound .size .lengths .entries) in
-      ap (λ (l : List ℕ). l ++ replicate (length (t .entries) - length (others z (t .entries))) free) o
-      ∙ append-assoc u (replicate (m .0) free) (replicate (length (t .entries) - length (others z (t .entries))) free)
-      ∙ ap (λ (l : List ℕ). u ++ l) (replicate-append-replicate (m .0) (length (t .entries) - length (others z (t .entries))) free ∙ ap (λ (k : ℕ). replicate k free) room)
+      let o : others z (t .derived .entries) ≡ u ++ replicate (m .0) free = ap (others z) (entries-fresh sound) ∙ keep-append (ofOther z) (used t) (replicate (entryRoom t - length (used t)) free) ∙ rw (keys-without (squares (shapeOf t)), m .2) in
+      let n : length (others z (t .derived .entries)) ≡ length u + m .0 = ap length o ∙ length-append u (replicate (m .0) free) ∙ ap (λ (k : ℕ). length u + k) (length-replicate (m .0) free) in
+      let room : m .0 + (length (t .derived .entries) - length (others z (t .derived .entries))) ≡ entryRoom t - length u =
+      omega (arith, n, m .1, ap length (keys-without (squares (shapeOf t))), length-keep (ofOther z) (used t), ap length (entries-fresh sound), length-append (used t) (replicate (entryRoom t - length (used t)) free), length-replicate (entryRoom t - length (used t)) free, size-of sound .lengths .entries) in
+      ap (λ (l : List ℕ). l ++ replicate (length (t .derived .entries) - length (others z (t .derived .entries))) free) o
+      ∙ append-assoc u (replicate (m .0) free) (replicate (length (t .derived .entries) - length (others z (t .derived .entries))) free)
+      ∙ ap (λ (l : List ℕ). u ++ l) (replicate-append-replicate (m .0) (length (t .derived .entries) - length (others z (t .derived .entries))) free ∙ ap (λ (k : ℕ). replicate k free) room)

@@ -15,16 +15,16 @@ use Rattle.position.specs.Answer.{onTown, columnOf, rowOf}
 use Rattle.tables.specs.Tables.{placedIn, spotIn}
 
 -- a car is placed, at a position on the map, and its cell lies in the rectangle
-unfoldable pub carIn : Shape → List ℕ → List Float → Rect → ℕ → Bool
-carIn s cars spots r c = placedIn cars c && (onTown s (spotIn spots c) && holds r (columnOf s (spotIn spots c)) (rowOf s (spotIn spots c)))
+unfoldable pub carWithin : Shape → List ℕ → List Float → Rect → ℕ → Bool
+carWithin s cars spots r c = placedIn cars c && (onTown s (spotIn spots c) && holds r (columnOf s (spotIn spots c)) (rowOf s (spotIn spots c)))
 
 -- a byte for each of so many cars
 abbrev pub rowIn : Shape → List ℕ → List Float → Rect → ℕ → List ℕ
-rowIn s cars spots r many = map (λ (c : ℕ). bit (carIn s cars spots r c)) (upto many)
+rowIn s cars spots r many = map (λ (c : ℕ). bit (carWithin s cars spots r c)) (upto many)
 
 -- how many of them are in the rectangle
 abbrev pub countIn : Shape → List ℕ → List Float → Rect → ℕ → ℕ
-countIn s cars spots r many = length (keep (carIn s cars spots r) (upto many))
+countIn s cars spots r many = length (keep (carWithin s cars spots r) (upto many))
 
 pub record Marks (s : Shape) (cars : List ℕ) (spots : List Float) (r : Rect) (row row′ : List ℕ) (n : ℕ) : Type 0 where
   pub written : row′ ≡ rowIn s cars spots r (length row)

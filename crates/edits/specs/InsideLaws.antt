@@ -15,7 +15,7 @@ use Rattle.order.specs.KeepLaws.{length-span}
 use Rattle.order.specs.SumLaws.{count-sum}
 use Rattle.squares.specs.declared.shape.Shape.{Shape}
 use Rattle.squares.specs.declared.shape.Rect.{Rect}
-use Rattle.squares.specs.Shape.{Allowed}
+use Rattle.squares.specs.Bounds.{Allowed}
 use Rattle.squares.specs.Cut.{holds}
 use Rattle.squares.specs.ShapeLaws.{→allowed}
 use Rattle.position.specs.declared.Spot.{Spot}
@@ -23,23 +23,23 @@ use Rattle.position.specs.Answer.{spotOn}
 use Rattle.position.specs.Laws.{off-town, on-town}
 use Rattle.tables.specs.Tables.{placedIn, spotIn}
 use Rattle.tables.specs.Rows.{RowThere}
-use Rattle.edits.specs.Inside.{carIn, rowIn, countIn, Marks, RowMarked}
+use Rattle.edits.specs.Inside.{carWithin, rowIn, countIn, Marks, RowMarked}
 use Rattle.tables.specs.RowLaws.{part-stored}
 use Rattle.edits.specs.SetLaws.{Setting, set-begins, set-turns, set-ends}
 
 -- ---- a car
 
 module _ (s : Shape) (cars : List ℕ) (spots : List Float) (r : Rect) (c : ℕ) where
-  pub in-away : placedIn cars c ≡ false → false ≡ carIn s cars spots r c
-  unfolding carIn
+  pub in-away : placedIn cars c ≡ false → false ≡ carWithin s cars spots r c
+  unfolding carWithin
   in-away e = rw e
 
-  pub in-off : Allowed s → placedIn cars c ≡ true → spotOn s (spotIn spots c) ≡ Spot.Off → false ≡ carIn s cars spots r c
-  unfolding carIn
+  pub in-off : Allowed s → placedIn cars c ≡ true → spotOn s (spotIn spots c) ≡ Spot.Off → false ≡ carWithin s cars spots r c
+  unfolding carWithin
   in-off h e f = rw (e, off-town s (spotIn spots c) (→allowed s h) f)
 
-  pub in-on : Allowed s → placedIn cars c ≡ true → (x y : ℕ) → spotOn s (spotIn spots c) ≡ Spot.Cell x y → holds r x y ≡ carIn s cars spots r c
-  unfolding carIn
+  pub in-on : Allowed s → placedIn cars c ≡ true → (x y : ℕ) → spotOn s (spotIn spots c) ≡ Spot.Cell x y → holds r x y ≡ carWithin s cars spots r c
+  unfolding carWithin
   in-on h e x y f = let a = on-town s (spotIn spots c) x y (→allowed s h) f in rw (e, a .0, a .1, a .2)
 
 bit-small : (b : Bool) → bit b ≤ 1
@@ -50,19 +50,19 @@ bit-small false = omega arith
 
 -- the first c cars are marked; n of them are in the rectangle
 pub record Marking (s : Shape) (cars : List ℕ) (spots : List Float) (r : Rect) (row row′ : List ℕ) (n c : ℕ) : Type 0 where
-  pub set : Setting (λ (i : ℕ). bit (carIn s cars spots r i)) row row′ c
+  pub set : Setting (λ (i : ℕ). bit (carWithin s cars spots r i)) row row′ c
   pub count : n ≡ countIn s cars spots r c
   pub few : n ≤ c
 
 pub mark-begins : (s : Shape) (cars : List ℕ) (spots : List Float) (r : Rect) (row : List ℕ) → Marking s cars spots r row row 0 0
 unfolding span keep
-mark-begins s cars spots r row = record { set = set-begins (λ (i : ℕ). bit (carIn s cars spots r i)) row; count = refl; few = omega arith }
+mark-begins s cars spots r row = record { set = set-begins (λ (i : ℕ). bit (carWithin s cars spots r i)) row; count = refl; few = omega arith }
 
 module _ {s : Shape} {cars : List ℕ} {spots : List Float} {r : Rect} {row row′ : List ℕ} {n c : ℕ} (k : Marking s cars spots r row row′ n c) where
-  pub mark-turns : c < length row → (held : Bool) → held ≡ carIn s cars spots r c → (byte : ℕ) → byte ≡ bit held → Marking s cars spots r row (set row′ c byte) (n + byte) (c + 1)
+  pub mark-turns : c < length row → (held : Bool) → held ≡ carWithin s cars spots r c → (byte : ℕ) → byte ≡ bit held → Marking s cars spots r row (set row′ c byte) (n + byte) (c + 1)
   unfolding sum
   mark-turns h held e byte f =
-      let p = carIn s cars spots r in
+      let p = carWithin s cars spots r in
       let b : byte ≡ bit (p c) = f ∙ ap bit e in
       record {
         set = set-turns (k .set) h byte b;
@@ -79,7 +79,7 @@ row-marked {s} {cars} {spots} {r} {rosters} {z} {many} {n} h row m =
     let d : z * many + many - z * many ≡ many = omega arith in
     let l : length (midOf (z * many) (z * many + many - z * many) rosters) ≡ many = mid-len (z * many) (z * many + many) rosters (h .there) ∙ d in
     let q : row ≡ rowIn s cars spots r many = m .written ∙ ap (rowIn s cars spots r) l in
-    let w : length row ≡ many = ap length q ∙ length-map (upto many) (λ (c : ℕ). bit (carIn s cars spots r c)) ∙ length-span 0 many in
+    let w : length row ≡ many = ap length q ∙ length-map (upto many) (λ (c : ℕ). bit (carWithin s cars spots r c)) ∙ length-span 0 many in
     record {
       written = part-stored rosters row (z * many) (z * many + many) (omega arith) (h .there) (omega arith) ∙ ap (sets rosters (z * many)) q;
       count = m .count ∙ ap (countIn s cars spots r) l;

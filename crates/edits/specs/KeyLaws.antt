@@ -15,7 +15,7 @@ use Rattle.order.specs.BufferLaws.{take-over, drop-over, wrote-over, wrote-leng
 use Rattle.order.specs.KeepLaws.{span-add, span→, →span, keep→, →keep, keep-append, keep-ext, length-keep, length-span}
 use Rattle.squares.specs.declared.shape.Shape.{Shape}
 use Rattle.squares.specs.declared.shape.Rect.{Rect}
-use Rattle.squares.specs.Shape.{Allowed}
+use Rattle.squares.specs.Bounds.{Allowed}
 use Rattle.squares.specs.Squares.{squares, squaresOn}
 use Rattle.squares.specs.Cut.{inCut, code, cutOn, cutTo, cut}
 use Rattle.squares.specs.CutLaws.{cut→}
@@ -81,7 +81,7 @@ module _ (s : Shape) (r : Rect) (allowed : Allowed s) where
       ∙ sym (ap (λ (n : ℕ). keep (cutAt s r) (upto n)) (before-more s m) ∙ rw (span-add 0 (before s m) (squaresOn s m), zero-add (before s m)) (keep-append (cutAt s r) (upto (before s m)) (span (before s m) (squaresOn s m))))
 
   -- the squares of the cut are listed by their places
-  pub cut-places : map (codePlace s) (cut s r) ≡ keep (cutAt s r) (upto (squares s))
+  cut-places : map (codePlace s) (cut s r) ≡ keep (cutAt s r) (upto (squares s))
   cut-places = to-level (suc (s .k)) (omega arith) ∙ ap (λ (n : ℕ). keep (cutAt s r) (upto n)) (before-all s)
 
   zone-keys : (z : ℕ) → zoneKeys s r z ≡ map (λ (p : ℕ). p * 256 + z) (keep (cutAt s r) (upto (squares s)))
@@ -91,7 +91,7 @@ module _ (s : Shape) (r : Rect) (allowed : Allowed s) where
   length-keys z = length-map (cut s r) (codeKey s z)
 
   -- no more than the town has squares
-  pub cut-few : length (cut s r) ≤ squares s
+  cut-few : length (cut s r) ≤ squares s
   cut-few = omega (arith, length-map (cut s r) (codePlace s), ap length cut-places, length-keep (cutAt s r) (upto (squares s)), length-span 0 (squares s))
 
   pub keys-rise : (z : ℕ) → Rising (zoneKeys s r z)
@@ -112,7 +112,7 @@ module _ (s : Shape) (r : Rect) (allowed : Allowed s) where
       subst (λ (l : List ℕ). List·Memᴰ key l) (sym (zone-keys z)) (subst (λ (k : ℕ). List·Memᴰ k (map (λ (p : ℕ). p * 256 + z) (keep (cutAt s r) (upto (squares s))))) (sym q) m)
 
   -- each number of the cut is a square's
-  pub cut-coded : (z : ℕ) → z < 256 → (c : ℕ) → List·Memᴰ c (cut s r) → Coded s z c
+  cut-coded : (z : ℕ) → z < 256 → (c : ℕ) → List·Memᴰ c (cut s r) → Coded s z c
   cut-coded z h c m =
       let a = cut→ s r c m in
       let b : a .1 < 1048576 = omega (arith, squares-small s allowed (a .0) (a .2), a .3) in

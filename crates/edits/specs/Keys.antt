@@ -7,7 +7,8 @@ use Rattle.order.specs.Order.{over}
 use Rattle.order.specs.Buffer.{rank}
 use Rattle.squares.specs.declared.shape.Shape.{Shape}
 use Rattle.squares.specs.declared.shape.Rect.{Rect}
-use Rattle.squares.specs.Shape.{Allowed, Fits}
+use Rattle.squares.specs.Shape.{mostZones, mostEntries}
+use Rattle.squares.specs.Bounds.{Allowed, Fits}
 use Rattle.squares.specs.Squares.{squares, squaresOn}
 use Rattle.squares.specs.Cut.{cut}
 use Rattle.tables.specs.Derived.{place}
@@ -28,7 +29,7 @@ zoneKeys s r z = map (codeKey s z) (cut s r)
 -- a number is a square's, and z a zone's
 pub record Coded (s : Shape) (z code : ℕ) : Type 0 where
   pub shape : Allowed s
-  pub zone : z < 256
+  pub zone : z < mostZones
   pub level : code / 1048576 ≤ s .k
   pub number : code % 1048576 < squaresOn s (code / 1048576)
 
@@ -36,7 +37,7 @@ pub record Coded (s : Shape) (z code : ℕ) : Type 0 where
 pub record KeyRoom (s : Shape) (r : Rect) (z : ℕ) (b : List ℕ) : Type 0 where
   pub shape : Allowed s
   pub rect : Fits s r
-  pub zone : z < 256
+  pub zone : z < mostZones
   pub room : squares s ≤ length b
 
 pub record Keyed (s : Shape) (r : Rect) (z : ℕ) (b b′ : List ℕ) (n : ℕ) : Type 0 where
@@ -48,10 +49,10 @@ pub record Keyed (s : Shape) (r : Rect) (z : ℕ) (b b′ : List ℕ) (n : ℕ) 
 pub record AddRoom (s : Shape) (r : Rect) (z u : ℕ) (starts entries : List ℕ) : Type 0 where
   pub shape : Allowed s
   pub rect : Fits s r
-  pub zone : z < 256
+  pub zone : z < mostZones
   pub places : length starts ≡ squares s + 1
   pub room : u + length (cut s r) ≤ length entries
-  pub few : length entries ≤ 16384
+  pub few : length entries ≤ mostEntries
 
 pub record KeysAdded (s : Shape) (r : Rect) (z u : ℕ) (starts starts′ entries entries′ : List ℕ) : Type 0 where
   pub merged : Merged entries entries′ u (zoneKeys s r z)

@@ -12,7 +12,7 @@ use borrow.Author.Tests.{ne-eqb, ltb-true, ltb-false}
 use Rattle.order.specs.Order.{Rising, none, more}
 use Rattle.order.specs.TestLaws.{lt-or-le, true-not-false}
 use Rattle.order.specs.RisingLaws.{member-at}
-use Rattle.soundness.specs.Tests.{endsBelow}
+use Rattle.order.specs.Buffer.{endsBelow}
 use Rattle.edits.specs.Merge.{Apart, Union, Merged}
 
 -- ---- a number put after all others

@@ -14,24 +14,18 @@ use borrow.Rule.Slice.PartMut.{midOf, putMid, mid-len}
 use Rattle.order.specs.Order.{span, upto, keep}
 use Rattle.order.specs.Buffer.{rank}
 use Rattle.order.specs.BufferLaws.{rank-stop, rank-go, rank-end}
+use Rattle.order.specs.RankLaws.{rank-append}
 use Rattle.order.specs.KeepLaws.{span-add, span→, keep→, keep-append, keep-all, length-span}
 use Rattle.squares.specs.Squares.{squares}
 use Rattle.squares.specs.ShapeLaws.{squares-few}
 use Rattle.tables.specs.Tables.{Tables, shapeOf, entryRoom}
-use Rattle.tables.specs.Check.{Sized}
+use Rattle.tables.specs.Sizes.{Sized}
 use Rattle.tables.specs.Derived.{on, keysTo, used, free, entriesOf}
 use Rattle.edits.specs.Edits.{ranks, Reaches, Fills}
 use Rattle.tables.specs.RowLaws.{part-stored}
 use Rattle.tables.specs.RunLaws.{keysFrom, keys-add}
 
 -- ---- rank
-
--- numbers below x, and then none
-rank-parts : (x : ℕ) (a b : List ℕ) → ((y : ℕ) → List·Memᴰ y a → y < x) → ((y : ℕ) → List·Memᴰ y b → x ≤ y) → rank x (a ++ b) ≡ length a
-unfolding rank
-rank-parts x [] [] f g = refl
-rank-parts x [] (y ∷ b) f g = rw (le-ltb y x (g y (List·Memᴰ·head refl)))
-rank-parts x (y ∷ a) b f g = rw (lt-ltb y x (f y (List·Memᴰ·head refl))) (ap suc (rank-parts x a b (λ v m. f v (List·Memᴰ·tail m)) g))
 
 -- ---- the starts set range by range
 
@@ -123,7 +117,7 @@ module _ (t : Tables) (size : Sized t) where
       let few = squares-few (shapeOf t) (size .shape) in
       ap (λ (l : List ℕ). rank (p * 256) (keep f l)) parts
       ∙ ap (rank (p * 256)) (keep-append f (keysTo t p) rest)
-      ∙ rank-parts (p * 256) (keep f (keysTo t p)) (keep f rest)
+      ∙ rank-append (p * 256) (keep f (keysTo t p)) (keep f rest)
       (λ y m. omega (arith, span→ 0 (p * 256) y (keep→ (on t) (upto (p * 256)) y (keep→ f (keysTo t p) y m .0) .0)))
       (λ y m. ⊎-elim
       (λ (g : List·Memᴰ y (keysFrom t p d)). span→ (p * 256) (d * 256) y (keep→ (on t) (span (p * 256) (d * 256)) y g .0) .0)

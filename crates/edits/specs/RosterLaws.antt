@@ -2,15 +2,14 @@
 use Prim.Native.Nat.{ℕ, _+_, _-_, _*_, _/_, _%_, _<_, _≤_}
 use mathlib.Core.Path.{_≡_, refl, ap, sym, _∙_}
 use mathlib.Core.Logic.{_⊎_, inl, inr, ⊎-elim}
-use mathlib.Core.Bool.{Bool, false, _&&_, and-false}
+use mathlib.Core.Bool.{Bool, false}
 use mathlib.Core.List.{List, [], _∷_, map}
+use mathlib.Core.Option.{Option, none, some}
 use native.Mathlib.Omega.{arith}
 use native.Mathlib.Nat.{zero-add, mul-le-mul, suc-mul, div-add-mod', mod-lt, div-lt-iff-lt-mul, le-refl}
 use lib.Arith.{digits-lt, digits-div, digits-mod}
-use lib.Dec.{ltb}
 use lib.ListN.{length, getD, replicate, length-map, length-replicate}
 use lib.Seq.{sets, length-sets, ext-getD}
-use borrow.Author.Tests.{lt-ltb}
 use borrow.Rule.Slice.PartMut.{midOf, putMid, mid-len}
 use Rattle.order.specs.Order.{upto}
 use Rattle.order.specs.Sums.{bit}
@@ -18,15 +17,18 @@ use Rattle.order.specs.TestLaws.{lt-or-eq-or-gt}
 use Rattle.order.specs.KeepLaws.{length-span}
 use Rattle.squares.specs.declared.shape.Rect.{Rect}
 use Rattle.squares.specs.Cut.{holds}
+use Rattle.position.specs.declared.Position.{Position}
 use Rattle.position.specs.Answer.{columnOf, rowOf}
-use Rattle.tables.specs.Tables.{Tables, shapeOf, zoneRoom, carRoom, rectIn, rectOf, stands, zoneHolds, placedIn, placed, spotOf, rosterHas}
-use Rattle.tables.specs.Check.{Sized}
+use Rattle.model.specs.Model.{Town, there, holdsCar, zoneOn, zoneOff, after}
+use Rattle.tables.specs.Tables.{Tables, zoneRoom, carRoom, zoneIn, townOf, rosterHas}
+use Rattle.tables.specs.Sizes.{Sized}
 use Rattle.tables.specs.Derived.{rostersOf}
-use Rattle.tables.specs.Steps.{zoned, withZone, withoutZone}
+use Rattle.tables.specs.Steps.{fresh, zoned, withZone, withoutZone}
 use Rattle.tables.specs.Rows.{RowThere}
 use Rattle.edits.specs.Edits.{rowCleared}
 use Rattle.tables.specs.RowLaws.{map-span, part-stored}
-use Rattle.edits.specs.ZoneLaws.{sets-apart, sets-there, rect-with, rect-with-other, rect-without-other, stands-without}
+use Rattle.edits.specs.ZoneLaws.{sets-apart, sets-there}
+use Rattle.edits.specs.TownLaws.{except-own, except-other, town-fresh, town-zone-on, town-zone-off}
 
 -- ---- a part lent and written
 
@@ -40,33 +42,42 @@ row-filled {rosters} {z} {many} h f e =
 
 -- ---- who is on a roster
 
--- a car is in the zone with a rectangle
-abbrev hasBy : Tables → ℕ → Rect → Bool
-hasBy t c r = placedIn (t .cars) c && (ltb 0 (r .w) && holds r (columnOf (shapeOf t) (spotOf t c)) (rowOf (shapeOf t) (spotOf t c)))
+-- a roster goes by the town that the records say
+has-town : (t : Tables) (m : Town) → townOf (fresh t) ≡ m → (z c : ℕ) → rosterHas t z c ≡ holdsCar m z c
+unfolding rosterHas
+has-town t m e z c = ap (λ (n : Town). holdsCar n z c) (sym (town-fresh t) ∙ e)
 
-has-by : (t : Tables) (z c : ℕ) → rosterHas t z c ≡ hasBy t c (rectOf t z)
-unfolding rosterHas zoneHolds stands placed
-has-by t z c = refl
+-- a car is in the zone with a rectangle, where there is one
+abbrev hasBy : Town → ℕ → Option Rect → Bool
+hasBy m c o = there (m .car c) (λ (p : Position). there o (λ (r : Rect). holds r (columnOf (m .opening .shape) p) (rowOf (m .opening .shape) p)))
 
-module _ (t : Tables) (z c : ℕ) where
-  pub has-with-other : (r : Rect) (y : ℕ) → (y ≡ z → ⊥) → rosterHas (zoned t (withZone (t .zones) z r)) y c ≡ rosterHas t y c
-  has-with-other r y f = has-by (zoned t (withZone (t .zones) z r)) y c ∙ ap (hasBy t c) (rect-with-other (t .zones) z r y f) ∙ sym (has-by t y c)
+has-none : (m : Town) (c : ℕ) → hasBy m c none ≡ false
+has-none m c = go (m .car c)
+  where
+    go : (o : Option Position) → there o (λ (p : Position). false) ≡ false
+    go none = refl
+    go (some p) = refl
 
-  -- a new zone's roster has the cars in its rectangle
-  pub has-with : (r : Rect) → 4 * z + 4 ≤ length (t .zones) → 0 < r .w → rosterHas (zoned t (withZone (t .zones) z r)) z c ≡ (placed t c && holds r (columnOf (shapeOf t) (spotOf t c)) (rowOf (shapeOf t) (spotOf t c)))
-  unfolding placed
-  has-with r h g = has-by (zoned t (withZone (t .zones) z r)) z c ∙ ap (hasBy t c) (rect-with (t .zones) z r h) ∙ rw (lt-ltb 0 (r .w) g)
+module _ (t : Tables) (size : Sized t) (z : ℕ) (within : z < zoneRoom t) (r : Rect) (wide : 0 < r .w) where
+  -- with a zone more
+  pub has-with : (y c : ℕ) → rosterHas (zoned t (withZone (t .records .zones) z r)) y c ≡ holdsCar (after (zoneOn z r) (townOf t)) y c
+  has-with = has-town (zoned t (withZone (t .records .zones) z r)) (after (zoneOn z r) (townOf t)) (town-zone-on t size z within r wide)
 
-  pub has-without-other : (y : ℕ) → (y ≡ z → ⊥) → rosterHas (zoned t (withoutZone (t .zones) z)) y c ≡ rosterHas t y c
-  has-without-other y f = has-by (zoned t (withoutZone (t .zones) z)) y c ∙ ap (hasBy t c) (rect-without-other (t .zones) z y f) ∙ sym (has-by t y c)
+  has-with-other : (y c : ℕ) → (y ≡ z → ⊥) → rosterHas (zoned t (withZone (t .records .zones) z r)) y c ≡ rosterHas t y c
+  unfolding rosterHas
+  has-with-other y c f = has-with y c ∙ ap (hasBy (townOf t) c) (except-other z (some r) (zoneIn t) y f)
 
-  -- no car is in a zone that stands no more
-  pub has-without : rosterHas (zoned t (withoutZone (t .zones) z)) z c ≡ false
-  has-without =
-      let inside = holds (rectIn (withoutZone (t .zones) z) z) (columnOf (shapeOf t) (spotOf t c)) (rowOf (shapeOf t) (spotOf t c)) in
-      has-by (zoned t (withoutZone (t .zones) z)) z c
-      ∙ ap (λ (b : Bool). placedIn (t .cars) c && (b && inside)) (stands-without (t .zones) z)
-      ∙ and-false (placedIn (t .cars) c)
+module _ (t : Tables) (z : ℕ) where
+  -- with a zone less
+  has-without : (y c : ℕ) → rosterHas (zoned t (withoutZone (t .records .zones) z)) y c ≡ holdsCar (after (zoneOff z) (townOf t)) y c
+  has-without = has-town (zoned t (withoutZone (t .records .zones) z)) (after (zoneOff z) (townOf t)) (town-zone-off t z)
+
+  has-without-other : (y c : ℕ) → (y ≡ z → ⊥) → rosterHas (zoned t (withoutZone (t .records .zones) z)) y c ≡ rosterHas t y c
+  unfolding rosterHas
+  has-without-other y c f = has-without y c ∙ ap (hasBy (townOf t) c) (except-other z none (zoneIn t) y f)
+
+  has-without-own : (c : ℕ) → rosterHas (zoned t (withoutZone (t .records .zones) z)) z c ≡ false
+  has-without-own c = has-without z c ∙ ap (hasBy (townOf t) c) (except-own z none (zoneIn t)) ∙ has-none (townOf t) c
 
 -- ---- the rosters
 
@@ -105,21 +116,21 @@ module _ (t : Tables) (size : Sized t) (zones : List ℕ) (z : ℕ) (there : z <
       (lt-or-eq-or-gt y z)
 
   -- the rosters differ only in zone z's row
-  pub rosters-row : rostersOf (zoned t zones) ≡ sets (rostersOf t) (z * carRoom t) (rosterRow (zoned t zones) z)
+  rosters-row : rostersOf (zoned t zones) ≡ sets (rostersOf t) (z * carRoom t) (rosterRow (zoned t zones) z)
   rosters-row = ext-getD 0 (rostersOf (zoned t zones)) (sets (rostersOf t) (z * carRoom t) (rosterRow (zoned t zones) z))
       (length-rosters (zoned t zones) ∙ sym (length-sets (rostersOf t) (z * carRoom t) (rosterRow (zoned t zones) z) ∙ length-rosters t))
       (λ i h. rw (div-add-mod' i (carRoom t)) at (byte (i / carRoom t) (i % carRoom t) (div-lt-iff-lt-mul (size .room .cars-some) .1 (omega (arith, length-rosters (zoned t zones)))) (mod-lt i (size .room .cars-some))))
 
 -- a new zone's row is its cars
-pub rosters-with : (t : Tables) → Sized t → (z : ℕ) → z < zoneRoom t → (r : Rect) → rostersOf (zoned t (withZone (t .zones) z r)) ≡ sets (rostersOf t) (z * carRoom t) (rosterRow (zoned t (withZone (t .zones) z r)) z)
-rosters-with t size z h r = rosters-row t size (withZone (t .zones) z r) z h (λ y c f. has-with-other t z c r y f)
+pub rosters-with : (t : Tables) → Sized t → (z : ℕ) → z < zoneRoom t → (r : Rect) → 0 < r .w → rostersOf (zoned t (withZone (t .records .zones) z r)) ≡ sets (rostersOf t) (z * carRoom t) (rosterRow (zoned t (withZone (t .records .zones) z r)) z)
+rosters-with t size z h r g = rosters-row t size (withZone (t .records .zones) z r) z h (has-with-other t size z h r g)
 
 -- without zone z its row is 0
-pub rosters-without : (t : Tables) → Sized t → (z : ℕ) → z < zoneRoom t → rostersOf (zoned t (withoutZone (t .zones) z)) ≡ rowCleared (rostersOf t) z (carRoom t)
+pub rosters-without : (t : Tables) → Sized t → (z : ℕ) → z < zoneRoom t → rostersOf (zoned t (withoutZone (t .records .zones) z)) ≡ rowCleared (rostersOf t) z (carRoom t)
 rosters-without t size z h =
-    rosters-row t size (withoutZone (t .zones) z) z h (λ y c f. has-without-other t z c y f)
+    rosters-row t size (withoutZone (t .records .zones) z) z h (has-without-other t z)
     ∙ ap (sets (rostersOf t) (z * carRoom t)) (no-car (upto (carRoom t)) ∙ ap (λ (n : ℕ). replicate n 0) (length-span 0 (carRoom t)))
   where
-    no-car : (l : List ℕ) → map (λ (c : ℕ). bit (rosterHas (zoned t (withoutZone (t .zones) z)) z c)) l ≡ replicate (length l) 0
+    no-car : (l : List ℕ) → map (λ (c : ℕ). bit (rosterHas (zoned t (withoutZone (t .records .zones) z)) z c)) l ≡ replicate (length l) 0
     no-car [] = refl
-    no-car (c ∷ l) = rw (has-without t z c) (ap (λ (m : List ℕ). 0 ∷ m) (no-car l))
+    no-car (c ∷ l) = rw (has-without-own t z c) (ap (λ (m : List ℕ). 0 ∷ m) (no-car l))

@@ -13,18 +13,22 @@ use lib.ListN.{length, getD, drop, set, length-set, drop-of-length-le}
 use lib.Seq.{drop-cons, getD-set-same, getD-set-other, ext-getD}
 use Rattle.order.specs.Order.{upto, keep}
 use Rattle.order.specs.Sums.{bit}
-use Rattle.order.specs.TestLaws.{lt-or-eq-or-gt, true-or-false, true-not-false, and→}
+use Rattle.order.specs.TestLaws.{true-or-false, true-not-false, and→}
 use Rattle.order.specs.KeepLaws.{→span, keep→, →keep, keep-ext, keep-none}
 use Rattle.position.specs.declared.Position.{Position}
 use Rattle.position.specs.Answer.{columnOf, rowOf}
+use Rattle.model.specs.Model.{Town, holdsCar, carAt, carOff}
 use Rattle.tables.specs.Tables.{Tables, tables, shapeOf, zoneRoom, carRoom, zoneHolds, rosterHas}
-use Rattle.tables.specs.Check.{Sized}
+use Rattle.tables.specs.Sizes.{Sized}
 use Rattle.tables.specs.Derived.{rostersOf}
 use Rattle.tables.specs.Sound.{Sound}
-use Rattle.tables.specs.Steps.{parked, withSpot, reportStep, leaveStep}
+use Rattle.tables.specs.Steps.{fresh, parked, withSpot, step}
+use Rattle.tables.specs.CheckLaws.{size-of}
+use Rattle.tables.specs.RecordLaws.{rosters-fresh}
 use Rattle.edits.specs.Edits.{stamped}
 use Rattle.edits.specs.RosterLaws.{byte-at, length-rosters}
-use Rattle.edits.specs.CarLaws.{has-fresh, report-own, report-other, report-keeps, leave-own, leave-other, leave-keeps}
+use Rattle.edits.specs.TownLaws.{same-or-other, town-fresh}
+use Rattle.edits.specs.CarLaws.{report-own, report-other, report-keeps, leave-own, leave-other, leave-keeps}
 
 -- ---- the bytes set one by one
 
@@ -47,7 +51,7 @@ module _ (b zs : List ℕ) (many c v : ℕ) where
 
 -- ---- what each byte is then
 
-pub length-stamped : (b zs : List ℕ) (many c v : ℕ) → length (stamped b zs many c v) ≡ length b
+length-stamped : (b zs : List ℕ) (many c v : ℕ) → length (stamped b zs many c v) ≡ length b
 unfolding stamped
 length-stamped b [] many c v = refl
 length-stamped b (z ∷ zs) many c v = length-stamped (set b (z * many + c) v) zs many c v ∙ length-set b (z * many + c) v
@@ -64,11 +68,9 @@ stamped-stays b [] many c v j e h = e
 stamped-stays b (z ∷ zs) many c v j e h =
     let at = z * many + c in
     stamped-stays (set b at v) zs many c v j (⊎-elim
-    (λ (l : j < at). getD-set-other b at j v 0 (λ (q : j ≡ at). omega arith) ∙ e)
-    (⊎-elim
     (λ (q : j ≡ at). ap (λ (n : ℕ). getD (set b at v) n 0) q ∙ getD-set-same b at v 0 (omega arith))
-    (λ (l : at < j). getD-set-other b at j v 0 (λ (q : j ≡ at). omega arith) ∙ e))
-    (lt-or-eq-or-gt j at)) (omega (arith, length-set b at v))
+    (λ (f : j ≡ at → ⊥). getD-set-other b at j v 0 f ∙ e)
+    (same-or-other j at)) (omega (arith, length-set b at v))
 
 stamped-there : (b zs : List ℕ) (many c v z : ℕ) → List·Memᴰ z zs → z * many + c < length b → getD (stamped b zs many c v) (z * many + c) 0 ≡ v
 unfolding stamped
@@ -149,45 +151,46 @@ module _ (t : Tables) (cars : List ℕ) (spots : List Float) (size : Sized t) (c
         (true-or-false (rosterHas u z c))
 
   byte : (z d : ℕ) → z < zoneRoom t → d < carRoom t → getD after (z * carRoom t + d) 0 ≡ getD (rostersOf u) (z * carRoom t + d) 0
-  byte z d g l = ⊎-elim
-      (λ (h : d < c). byte-other z d g l (λ (e : d ≡ c). omega arith))
-      (⊎-elim (λ (e : d ≡ c). rw e (byte-own z g)) (λ (h : c < d). byte-other z d g l (λ (e : d ≡ c). omega arith)))
-      (lt-or-eq-or-gt d c)
-      ∙ sym (byte-at u z d g l)
+  byte z d g l = ⊎-elim (λ (e : d ≡ c). rw e (byte-own z g)) (byte-other z d g l) (same-or-other d c) ∙ sym (byte-at u z d g l)
 
   -- the bytes of the zones entered and left set, the rosters are what the records give
-  pub rosters-stamped : after ≡ rostersOf u
+  rosters-stamped : after ≡ rostersOf u
   rosters-stamped = ext-getD 0 after (rostersOf u)
       (length-stamped came (gained u t c) (carRoom t) c 0 ∙ length-came ∙ sym (length-rosters u))
       (λ i h. rw (div-add-mod' i (carRoom t)) at (byte (i / carRoom t) (i % carRoom t) (div-lt-iff-lt-mul (size .room .cars-some) .1 (omega (arith, length-stamped came (gained u t c) (carRoom t) c 0, length-came))) (mod-lt i (size .room .cars-some))))
 
 -- ---- the steps of the calls, table by table
 
+-- what is derived does not matter to a roster
+has-fresh : (u : Tables) (z d : ℕ) → rosterHas (fresh u) z d ≡ rosterHas u z d
+unfolding rosterHas
+has-fresh u z d = ap (λ (m : Town). holdsCar m z d) (town-fresh u)
+
 module _ (t : Tables) (sound : Sound t) (c : ℕ) (there : c < carRoom t) where
   -- the zones that a report enters and leaves have their bytes set
-  pub reported-is : (p : Position) (came gone : List ℕ) → came ≡ keep (λ (z : ℕ). zoneHolds t z (columnOf (shapeOf t) p) (rowOf (shapeOf t) p) && not (rosterHas t z c)) (upto (zoneRoom t)) → gone ≡ keep (λ (z : ℕ). rosterHas t z c && not (zoneHolds t z (columnOf (shapeOf t) p) (rowOf (shapeOf t) p))) (upto (zoneRoom t)) → tables (t .head) (t .zones) (set (t .cars) c 1) (withSpot (t .spots) c p) (t .starts) (t .entries) (stamped (stamped (t .rosters) came (carRoom t) c 1) gone (carRoom t) c 0) ≡ reportStep t c p
+  pub reported-is : (p : Position) (came gone : List ℕ) → came ≡ keep (λ (z : ℕ). zoneHolds t z (columnOf (shapeOf t) p) (rowOf (shapeOf t) p) && not (rosterHas t z c)) (upto (zoneRoom t)) → gone ≡ keep (λ (z : ℕ). rosterHas t z c && not (zoneHolds t z (columnOf (shapeOf t) p) (rowOf (shapeOf t) p))) (upto (zoneRoom t)) → tables (t .records .head) (t .records .zones) (set (t .records .cars) c 1) (withSpot (t .records .spots) c p) (t .derived .starts) (t .derived .entries) (stamped (stamped (t .derived .rosters) came (carRoom t) c 1) gone (carRoom t) c 0) ≡ step (carAt c p) t
   reported-is p came gone e f =
-      let cars = set (t .cars) c 1 in
-      let spots = withSpot (t .spots) c p in
+      let cars = set (t .records .cars) c 1 in
+      let spots = withSpot (t .records .spots) c p in
       let u = parked t cars spots in
       let own : (z : ℕ) → rosterHas u z c ≡ zoneHolds t z (columnOf (shapeOf t) p) (rowOf (shapeOf t) p) = λ (z : ℕ). sym (has-fresh u z c) ∙ report-own t c p z sound there in
       let e′ : came ≡ gained t u c = e ∙ keep-ext _ (λ (z : ℕ). rosterHas u z c && not (rosterHas t z c)) (upto (zoneRoom t)) (λ z m. ap (λ (b : Bool). b && not (rosterHas t z c)) (sym (own z))) in
       let f′ : gone ≡ gained u t c = f ∙ keep-ext _ (λ (z : ℕ). rosterHas t z c && not (rosterHas u z c)) (upto (zoneRoom t)) (λ z m. ap (λ (b : Bool). rosterHas t z c && not b) (sym (own z))) in
-      let bytes = ap₂ (λ (a b : List ℕ). stamped (stamped (t .rosters) a (carRoom t) c 1) b (carRoom t) c 0) e′ f′ ∙ ap (λ (b : List ℕ). stamped (stamped b (gained t u c) (carRoom t) c 1) (gained u t c) (carRoom t) c 0) (sound .rosters) ∙ rosters-stamped t cars spots (sound .size) c there (λ z d g. sym (has-fresh u z d) ∙ report-other t c p z d g) in
+      let bytes = ap₂ (λ (a b : List ℕ). stamped (stamped (t .derived .rosters) a (carRoom t) c 1) b (carRoom t) c 0) e′ f′ ∙ ap (λ (b : List ℕ). stamped (stamped b (gained t u c) (carRoom t) c 1) (gained u t c) (carRoom t) c 0) (rosters-fresh sound) ∙ rosters-stamped t cars spots (size-of sound) c there (λ z d g. sym (has-fresh u z d) ∙ report-other t c p z sound there d g) in
       let keeps = report-keeps t sound c p in
-      ap (λ (b : List ℕ). tables (t .head) (t .zones) cars spots (t .starts) (t .entries) b) bytes
-      ∙ ap₂ (λ (a b : List ℕ). tables (t .head) (t .zones) cars spots a b (rostersOf u)) (sym (keeps .starts)) (sym (keeps .entries))
+      ap (λ (b : List ℕ). tables (t .records .head) (t .records .zones) cars spots (t .derived .starts) (t .derived .entries) b) bytes
+      ∙ ap₂ (λ (a b : List ℕ). tables (t .records .head) (t .records .zones) cars spots a b (rostersOf u)) (sym (keeps .starts)) (sym (keeps .entries))
 
   -- the zones that a leave takes the car from have their bytes cleared
-  pub departed-is : (gone : List ℕ) → gone ≡ keep (λ (z : ℕ). rosterHas t z c) (upto (zoneRoom t)) → tables (t .head) (t .zones) (set (t .cars) c 0) (t .spots) (t .starts) (t .entries) (stamped (t .rosters) gone (carRoom t) c 0) ≡ leaveStep t c
+  pub departed-is : (gone : List ℕ) → gone ≡ keep (λ (z : ℕ). rosterHas t z c) (upto (zoneRoom t)) → tables (t .records .head) (t .records .zones) (set (t .records .cars) c 0) (t .records .spots) (t .derived .starts) (t .derived .entries) (stamped (t .derived .rosters) gone (carRoom t) c 0) ≡ step (carOff c) t
   unfolding stamped
   departed-is gone f =
-      let cars = set (t .cars) c 0 in
-      let u = parked t cars (t .spots) in
+      let cars = set (t .records .cars) c 0 in
+      let u = parked t cars (t .records .spots) in
       let own : (z : ℕ) → rosterHas u z c ≡ false = λ (z : ℕ). sym (has-fresh u z c) ∙ leave-own t c z in
       let none : gained t u c ≡ [] = keep-none (λ (z : ℕ). rosterHas u z c && not (rosterHas t z c)) (upto (zoneRoom t)) (λ z m. ap (λ (b : Bool). b && not (rosterHas t z c)) (own z)) in
       let f′ : gone ≡ gained u t c = f ∙ keep-ext (λ (z : ℕ). rosterHas t z c) (λ (z : ℕ). rosterHas t z c && not (rosterHas u z c)) (upto (zoneRoom t)) (λ z m. sym (ap (λ (b : Bool). rosterHas t z c && not b) (own z) ∙ and-true (rosterHas t z c))) in
-      let bytes = ap₂ (λ (a b : List ℕ). stamped a b (carRoom t) c 0) (sound .rosters) f′ ∙ ap (λ (a : List ℕ). stamped (stamped (rostersOf t) a (carRoom t) c 1) (gained u t c) (carRoom t) c 0) (sym none) ∙ rosters-stamped t cars (t .spots) (sound .size) c there (λ z d g. sym (has-fresh u z d) ∙ leave-other t c z d g) in
+      let bytes = ap₂ (λ (a b : List ℕ). stamped a b (carRoom t) c 0) (rosters-fresh sound) f′ ∙ ap (λ (a : List ℕ). stamped (stamped (rostersOf t) a (carRoom t) c 1) (gained u t c) (carRoom t) c 0) (sym none) ∙ rosters-stamped t cars (t .records .spots) (size-of sound) c there (λ z d g. sym (has-fresh u z d) ∙ leave-other t c z d g) in
       let keeps = leave-keeps t sound c in
-      ap (λ (b : List ℕ). tables (t .head) (t .zones) cars (t .spots) (t .starts) (t .entries) b) bytes
-      ∙ ap₂ (λ (a b : List ℕ). tables (t .head) (t .zones) cars (t .spots) a b (rostersOf u)) (sym (keeps .starts)) (sym (keeps .entries))
+      ap (λ (b : List ℕ). tables (t .records .head) (t .records .zones) cars (t .records .spots) (t .derived .starts) (t .derived .entries) b) bytes
+      ∙ ap₂ (λ (a b : List ℕ). tables (t .records .head) (t .records .zones) cars (t .records .spots) a b (rostersOf u)) (sym (keeps .starts)) (sym (keeps .entries))

@@ -15,7 +15,7 @@ use Rattle.squares.specs.declared.shape.Shape.{Shape}
 use Rattle.squares.specs.declared.shape.Rect.{Rect}
 use Rattle.squares.specs.Cut.{inCut}
 use Rattle.tables.specs.Tables.{Tables, shapeOf, rectIn, rectOf, standsIn, stands}
-use Rattle.tables.specs.Check.{Sized}
+use Rattle.tables.specs.Sizes.{Sized}
 use Rattle.tables.specs.Derived.{levelAt, numberAt, on}
 use Rattle.edits.specs.Edits.{ofOther}
 use Rattle.tables.specs.Steps.{zoned, withZone, withoutZone}
@@ -69,9 +69,6 @@ module _ (zones : List ℕ) (z : ℕ) (r : Rect) where
     pub stands-with-other : standsIn (withZone zones z r) y ≡ standsIn zones y
     stands-with-other = ap (ltb 0) (apart 2 (omega arith))
 
-  pub stands-with : 4 * z + 4 ≤ length zones → 0 < r .w → standsIn (withZone zones z r) z ≡ true
-  stands-with h g = ap (λ (q : Rect). ltb 0 (q .w)) (rect-with h) ∙ lt-ltb 0 (r .w) g
-
 -- ---- a zone cleared
 
 module _ (zones : List ℕ) (z : ℕ) where
@@ -108,24 +105,24 @@ unfolding on stands
 on-by t key = refl
 
 module _ (t : Tables) (z : ℕ) (key : ℕ) where
-  pub on-with-other : (r : Rect) → (key % 256 ≡ z → ⊥) → on (zoned t (withZone (t .zones) z r)) key ≡ on t key
-  on-with-other r f = on-by (zoned t (withZone (t .zones) z r)) key ∙ ap (onBy (shapeOf t) key) (rect-with-other (t .zones) z r (key % 256) f) ∙ sym (on-by t key)
+  pub on-with-other : (r : Rect) → (key % 256 ≡ z → ⊥) → on (zoned t (withZone (t .records .zones) z r)) key ≡ on t key
+  on-with-other r f = on-by (zoned t (withZone (t .records .zones) z r)) key ∙ ap (onBy (shapeOf t) key) (rect-with-other (t .records .zones) z r (key % 256) f) ∙ sym (on-by t key)
 
-  pub on-with : (r : Rect) → 4 * z + 4 ≤ length (t .zones) → 0 < r .w → key % 256 ≡ z → on (zoned t (withZone (t .zones) z r)) key ≡ inCut (shapeOf t) r (levelAt (shapeOf t) (key / 256)) (numberAt (shapeOf t) (key / 256))
+  pub on-with : (r : Rect) → 4 * z + 4 ≤ length (t .records .zones) → 0 < r .w → key % 256 ≡ z → on (zoned t (withZone (t .records .zones) z r)) key ≡ inCut (shapeOf t) r (levelAt (shapeOf t) (key / 256)) (numberAt (shapeOf t) (key / 256))
   on-with r h g e =
-      on-by (zoned t (withZone (t .zones) z r)) key
-      ∙ ap (onBy (shapeOf t) key) (ap (rectIn (withZone (t .zones) z r)) e ∙ rect-with (t .zones) z r h)
+      on-by (zoned t (withZone (t .records .zones) z r)) key
+      ∙ ap (onBy (shapeOf t) key) (ap (rectIn (withZone (t .records .zones) z r)) e ∙ rect-with (t .records .zones) z r h)
       ∙ ap (λ (b : Bool). b && inCut (shapeOf t) r (levelAt (shapeOf t) (key / 256)) (numberAt (shapeOf t) (key / 256))) (lt-ltb 0 (r .w) g)
 
-  pub on-without-other : (key % 256 ≡ z → ⊥) → on (zoned t (withoutZone (t .zones) z)) key ≡ on t key
-  on-without-other f = on-by (zoned t (withoutZone (t .zones) z)) key ∙ ap (onBy (shapeOf t) key) (rect-without-other (t .zones) z (key % 256) f) ∙ sym (on-by t key)
+  on-without-other : (key % 256 ≡ z → ⊥) → on (zoned t (withoutZone (t .records .zones) z)) key ≡ on t key
+  on-without-other f = on-by (zoned t (withoutZone (t .records .zones) z)) key ∙ ap (onBy (shapeOf t) key) (rect-without-other (t .records .zones) z (key % 256) f) ∙ sym (on-by t key)
 
-  on-without-own : key % 256 ≡ z → on (zoned t (withoutZone (t .zones) z)) key ≡ false
+  on-without-own : key % 256 ≡ z → on (zoned t (withoutZone (t .records .zones) z)) key ≡ false
   on-without-own e =
-      on-by (zoned t (withoutZone (t .zones) z)) key
-      ∙ ap (λ (b : Bool). b && inCut (shapeOf t) (rectIn (withoutZone (t .zones) z) (key % 256)) (levelAt (shapeOf t) (key / 256)) (numberAt (shapeOf t) (key / 256))) (ap (standsIn (withoutZone (t .zones) z)) e ∙ stands-without (t .zones) z)
+      on-by (zoned t (withoutZone (t .records .zones) z)) key
+      ∙ ap (λ (b : Bool). b && inCut (shapeOf t) (rectIn (withoutZone (t .records .zones) z) (key % 256)) (levelAt (shapeOf t) (key / 256)) (numberAt (shapeOf t) (key / 256))) (ap (standsIn (withoutZone (t .records .zones) z)) e ∙ stands-without (t .records .zones) z)
 
-  pub on-without : on (zoned t (withoutZone (t .zones) z)) key ≡ (on t key && ofOther z key)
+  pub on-without : on (zoned t (withoutZone (t .records .zones) z)) key ≡ (on t key && ofOther z key)
   on-without = ⊎-elim
       (λ (e : eqb (key % 256) z ≡ true). on-without-own (eqb-true (key % 256) z e) ∙ rw e (sym (and-false (on t key))))
       (λ (e : eqb (key % 256) z ≡ false). on-without-other (λ (f : key % 256 ≡ z). true-not-false _ (eq-eqb (key % 256) z f) e) ∙ rw e (sym (and-true (on t key))))
@@ -133,7 +130,7 @@ module _ (t : Tables) (z : ℕ) (key : ℕ) where
 
 -- ---- other zones, as many
 
-pub sized-zoned : (t : Tables) (zones : List ℕ) → Sized t → length zones ≡ length (t .zones) → Sized (zoned t zones)
+pub sized-zoned : (t : Tables) (zones : List ℕ) → Sized t → length zones ≡ length (t .records .zones) → Sized (zoned t zones)
 sized-zoned t zones h e =
     let l = h .lengths in
     record { shape = h .shape; room = h .room; lengths = record { head = l .head; zones = e ∙ l .zones; cars = l .cars; spots = l .spots; starts = l .starts; entries = l .entries; rosters = l .rosters } }

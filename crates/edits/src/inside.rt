@@ -9,18 +9,18 @@ ghost use Prim.Native.Nat.{_<_};
 ghost use mathlib.Core.Path.{_≡_};
 ghost use lib.ListN.{length};
 ghost use Rattle.order.specs.Sums.{bit};
-ghost use Rattle.squares.specs.Shape.{Fits};
-ghost use Rattle.edits.specs.Inside.{carIn, Marks, RowMarked};
+ghost use Rattle.squares.specs.Bounds.{Fits};
+ghost use Rattle.edits.specs.Inside.{carWithin, Marks, RowMarked};
 ghost use Rattle.tables.specs.Rows.{RowThere};
-ghost use Rattle.soundness.specs.Tests.{Parked};
+ghost use Rattle.tables.specs.Asks.{Parked};
 
 // Whether a car is placed, on the map, and in a rectangle. The four tests of its cell are made without
 // a branch, since which one fails changes from car to car.
-fn car_in(s: Shape, cars: &[u32], spots: &[f32], r: Rect, C: usize, c: usize) -> bool
+fn car_within(s: Shape, cars: &[u32], spots: &[f32], r: Rect, C: usize, c: usize) -> bool
     requires { ⌜ Parked s (now cars) (now spots) C ⌝ }
     requires { ⌜ c < C ⌝ }
     requires { ⌜ Fits s r ⌝ }
-    ensures { λ t. ⌜ t ≡ carIn s (now (cars .entry)) (now (spots .entry)) r c ⌝ }
+    ensures { λ t. ⌜ t ≡ carWithin s (now (cars .entry)) (now (spots .entry)) r c ⌝ }
 {
     if !placed_in(cars, c) {
         return false;
@@ -55,7 +55,7 @@ fn mark_cars(s: Shape, cars: &[u32], spots: &[f32], r: Rect, row: &mut [u8]) -> 
     let mut inside = 0usize;
     let mut c = 0;
     while c < many {
-        let byte = byte_of(car_in(s, cars, spots, r, many, c));
+        let byte = byte_of(car_within(s, cars, spots, r, many, c));
         row[c] = byte;
         inside += byte as usize;
         c += 1;

@@ -1,6 +1,6 @@
 // Keys merged into the entries.
-use soundness::ends_below;
-use soundness::wide;
+use order::ends_below;
+use order::wide;
 ghost use Prim.Native.Nat.{_+_, _≤_};
 ghost use lib.ListN.{length};
 ghost use Rattle.edits.specs.Merge.{Merged};

@@ -2,6 +2,7 @@
 use tables::fill_bytes;
 ghost use Prim.Native.Nat.{_+_, _*_, _≤_};
 ghost use mathlib.Core.Path.{_≡_};
+ghost use Rattle.squares.specs.Shape.{mostCars};
 ghost use Rattle.tables.specs.Rows.{RowThere};
 ghost use Rattle.edits.specs.Edits.{rowCleared, stamped};
 
@@ -17,7 +18,7 @@ pub fn clear_row(rosters: &mut [u8], z: usize, many: u32)
 
 // Where car c's byte stands in zone z's row, rows of so many bytes.
 fn byte_at(z: u32, many: u32, c: u32) -> usize
-    requires { ⌜ many ≤ 1024 ⌝ }
+    requires { ⌜ many ≤ mostCars ⌝ }
     ensures { λ r. ⌜ r ≡ z * many + c ⌝ }
 {
     z as usize * many as usize + c as usize
@@ -25,7 +26,7 @@ fn byte_at(z: u32, many: u32, c: u32) -> usize
 
 // Sets car c's byte in the row of each zone of a list, rows of so many bytes.
 pub fn stamp_rows(rosters: &mut [u8], zones: &[u32], many: u32, c: u32, v: u8)
-    requires { ⌜ many ≤ 1024 ⌝ }
+    requires { ⌜ many ≤ mostCars ⌝ }
     ensures { λ _. ⌜ now (rosters .exit) ≡ stamped (now (rosters .entry)) (now (zones .entry)) many c v ⌝ }
 {
     let mut i = 0;

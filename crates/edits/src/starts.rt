@@ -3,6 +3,7 @@ use tables::fill_words;
 ghost use Prim.Native.Nat.{_≤_};
 ghost use mathlib.Core.Path.{_≡_};
 ghost use lib.ListN.{length};
+ghost use Rattle.squares.specs.Shape.{mostEntries};
 ghost use Rattle.edits.specs.Edits.{ranks, Reaches, Fills};
 
 // The place after a key's own, or so many where that is less.
@@ -33,7 +34,7 @@ fn fill_to(list: &mut [u32], p: usize, end: usize, v: u32) -> usize
 // One pass over the entries, each of which sets the places up to its own that are not set yet.
 pub fn set_starts(starts: &mut [u32], entries: &[u32])
     requires { ⌜ length (now starts) ≤ 87382 ⌝ }
-    requires { ⌜ length (now entries) ≤ 16384 ⌝ }
+    requires { ⌜ length (now entries) ≤ mostEntries ⌝ }
     ensures { λ _. ⌜ now (starts .exit) ≡ ranks (now (entries .entry)) (length (now (starts .entry))) ⌝ }
 {
     let many = starts.len();

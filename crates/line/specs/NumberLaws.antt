@@ -102,7 +102,7 @@ decimal-needless f h e = rw (lt-ltb 1 (length f) h, e) (refused (leb 1 (length f
     refused true false = refl
     refused false b = refl
 
-pub decimal-plain : (f : List ℕ) → 1 ≤ length f → length f ≤ 10 → (getD f 0 0 ≡ 48 → ⊥) → decimal f ≡ below 4294967296 (numeral 10 0 f)
+decimal-plain : (f : List ℕ) → 1 ≤ length f → length f ≤ 10 → (getD f 0 0 ≡ 48 → ⊥) → decimal f ≡ below 4294967296 (numeral 10 0 f)
 unfolding decimal
 decimal-plain f h g z = rw (le-leb 1 (length f) h, le-leb (length f) 10 g, ne-eqb (getD f 0 0) 48 z) (taken (ltb 1 (length f)))
   where

@@ -110,8 +110,8 @@ module _ {letter count : ℕ} {bases l v : List ℕ} {at i : ℕ} (g : Gets lett
   next : i < count → drop i (form letter) ≡ getD bases i 0 ∷ drop (suc i) (form letter)
   next h = drop-cons (form letter) i 0 (omega (arith, size)) ∙ ap (λ (b : ℕ). b ∷ drop (suc i) (form letter)) (ap (λ (t : List ℕ). getD t i 0) (sym (g .formed .is)) ∙ getD-take count bases i 0 h)
 
-  pub gets-room : i < count → (i < length v) × (i < length bases)
-  gets-room h = (omega (arith, g .room, g .formed .most), omega (arith, g .formed .room, g .formed .most))
+  pub gets-few : i < count → i < 5
+  gets-few h = omega (arith, g .formed .most)
 
   -- the bases and the fields that are left
   left : (e : ℕ) → i < count → Found l at e → values (drop i (form letter)) (rest l at) ≡ values (getD bases i 0 ∷ drop (suc i) (form letter)) (take (e - at) (drop at l) ∷ rest l (e + 1))
@@ -124,12 +124,12 @@ module _ {letter count : ℕ} {bases l v : List ℕ} {at i : ℕ} (g : Gets lett
   pub gets-wrong : (e : ℕ) → i < count → Found l at e → value (getD bases i 0) (take (e - at) (drop at l)) ≡ Wrong → Bad ≡ recorded letter (values (form letter) (rest l 2))
   gets-wrong e h f w = refused letter (take i v) (g .same) (left e h f ∙ values-wrong (getD bases i 0) (take (e - at) (drop at l)) (drop (suc i) (form letter)) (rest l (e + 1)) w)
 
-  pub gets-small : (e n : ℕ) → Found l at e → value (getD bases i 0) (take (e - at) (drop at l)) ≡ Value n → n < 4294967296
-  gets-small e n f w = value-small (getD bases i 0) (take (e - at) (drop at l)) n w
+  pub gets-small : (e n : ℕ) → value (getD bases i 0) (take (e - at) (drop at l)) ≡ Value n → n < 4294967296
+  gets-small e n w = value-small (getD bases i 0) (take (e - at) (drop at l)) n w
 
   pub gets-turn : (e n : ℕ) → i < count → Found l at e → value (getD bases i 0) (take (e - at) (drop at l)) ≡ Value n → Gets letter count bases l (set v i n) (e + 1) (i + 1)
   gets-turn e n h f w =
-      let k : i < length v = gets-room h .0 in
+      let k : i < length v = omega (arith, gets-few h, g .room) in
       let m : 5 - i ≡ suc (5 - suc i) = omega (arith, g .formed .most) in
       let z : drop (suc i) v ≡ replicate (5 - suc i) 0 = ap (λ (x : ℕ). drop x v) (sym (add-one i)) ∙ sym (drop-drop 1 i v) ∙ ap (drop 1) (g .zeros ∙ ap (λ (x : ℕ). replicate x 0) m) in
       record {

@@ -1,7 +1,7 @@
 -- Laws of a list taken apart at a mark.
 use Prim.Native.Nat.{ℕ, suc, _+_, _-_, _<_, _≤_}
 use mathlib.Core.Path.{_≡_, refl, ap, sym, _∙_}
-use mathlib.Core.Logic.{_⊎_, ⊎-elim}
+use mathlib.Core.Logic.{⊎-elim}
 use mathlib.Core.Bool.{Bool, true, false, cond}
 use mathlib.Core.List.{List, [], _∷_}
 use native.Mathlib.Omega.{arith}
@@ -17,16 +17,16 @@ use Rattle.line.specs.Leaves.{Ends}
 
 -- ---- the first part
 
-pub front-mark : (mark x : ℕ) (l : List ℕ) → x ≡ mark → front mark (x ∷ l) ≡ []
+front-mark : (mark x : ℕ) (l : List ℕ) → x ≡ mark → front mark (x ∷ l) ≡ []
 unfolding front
 front-mark mark x l e = rw (eq-eqb x mark e)
 
-pub front-other : (mark x : ℕ) (l : List ℕ) → (x ≡ mark → ⊥) → front mark (x ∷ l) ≡ x ∷ front mark l
+front-other : (mark x : ℕ) (l : List ℕ) → (x ≡ mark → ⊥) → front mark (x ∷ l) ≡ x ∷ front mark l
 unfolding front
 front-other mark x l f = rw (ne-eqb x mark f)
 
 -- a split list is its first part, and the parts after the mark if there is one
-pub split-last : (mark : ℕ) (l : List ℕ) → length l ≤ length (front mark l) → split mark l ≡ l ∷ []
+split-last : (mark : ℕ) (l : List ℕ) → length l ≤ length (front mark l) → split mark l ≡ l ∷ []
 unfolding split front
 split-last mark [] h = refl
 split-last mark (x ∷ l) h = go (eqb x mark) h (split-last mark l)
@@ -35,7 +35,7 @@ split-last mark (x ∷ l) h = go (eqb x mark) h (split-last mark l)
     go true g k = absurd (omega arith)
     go false g k = ap (grow x) (k (omega arith))
 
-pub split-more : (mark : ℕ) (l : List ℕ) → length (front mark l) < length l → split mark l ≡ front mark l ∷ split mark (drop (suc (length (front mark l))) l)
+split-more : (mark : ℕ) (l : List ℕ) → length (front mark l) < length l → split mark l ≡ front mark l ∷ split mark (drop (suc (length (front mark l))) l)
 unfolding split front
 split-more mark [] h = absurd (omega arith)
 split-more mark (x ∷ l) h = go (eqb x mark) h (split-more mark l)

@@ -49,13 +49,13 @@ digits-length (suc k) n = ⊎-elim
 
 -- ---- a number's text
 
-pub text-one : (n : ℕ) → n < 10 → text n ≡ (48 + n) ∷ []
+text-one : (n : ℕ) → n < 10 → text n ≡ (48 + n) ∷ []
 text-one n h = digits-one 9 n h
 
-pub text-more : (n : ℕ) → n < 4294967296 → 10 ≤ n → text n ≡ text (n / 10) ++ ((48 + n % 10) ∷ [])
+text-more : (n : ℕ) → n < 4294967296 → 10 ≤ n → text n ≡ text (n / 10) ++ ((48 + n % 10) ∷ [])
 text-more n h g = digits-more 9 n g ∙ ap (λ (l : List ℕ). l ++ ((48 + n % 10) ∷ [])) (sym (digits-enough 8 (n / 10) (omega arith)))
 
-pub text-length : (n : ℕ) → length (text n) ≤ 10
+text-length : (n : ℕ) → length (text n) ≤ 10
 text-length n = digits-length 10 n
 
 -- ---- a number's text reads back as the number
@@ -110,7 +110,7 @@ unfolding followed
 followed-length [] = omega arith
 followed-length (n ∷ l) = rw (length-append (text n) (followed l)) (let h = followed-length l in omega (arith, text-length n))
 
-pub listed-length : (l : List ℕ) → length (listed l) ≤ 1 + 11 * length l
+listed-length : (l : List ℕ) → length (listed l) ≤ 1 + 11 * length l
 unfolding listed
 listed-length [] = omega arith
 listed-length (n ∷ l) = rw (length-append (text n) (followed l)) (omega (arith, text-length n, followed-length l))
@@ -134,7 +134,7 @@ pub puts-more : {b c d t u : List ℕ} {at r s m n : ℕ} → Puts b c at r t m 
 puts-more p q = record { wrote = wrote-more (p .wrote) (q .wrote); most = omega (arith, p .most, q .most) }
 
 -- the same text, and another bound
-pub puts-as : {b c t u : List ℕ} {at r m : ℕ} (n : ℕ) → Puts b c at r t m → t ≡ u → length u ≤ n → Puts b c at r u n
+puts-as : {b c t u : List ℕ} {at r m : ℕ} (n : ℕ) → Puts b c at r t m → t ≡ u → length u ≤ n → Puts b c at r u n
 puts-as n p e h = record { wrote = rw (sym e) (p .wrote); most = omega (arith, p .wrote .next, ap length e, h) }
 
 pub puts-none : {b c : List ℕ} {at r : ℕ} (l : List ℕ) → length l ≡ 0 → Puts b c at r (45 ∷ []) 1 → Puts b c at r (listed l) (1 + 11 * length l)

@@ -9,16 +9,17 @@ use lib.ListN.{length, take, drop, drop-of-length-le}
 use Rattle.order.specs.TestLaws.{true-not-false}
 use Rattle.squares.specs.Shape.{allowed}
 use Rattle.tables.specs.Tables.{Tables, tables, shapeOf}
+use Rattle.tables.specs.Lent.{both}
 use Rattle.line.specs.Lines.{Room, Takes, last, feed, Fed as State}
 use Rattle.replay.specs.Room.{Ready}
 use Rattle.log.specs.declared.Held.{Held}
 use Rattle.log.specs.Pieces.{afterLines, Answered, Fed, Feeds}
 
 module _ {t u : Tables} {piece b c : List ℕ} {n : ℕ} (ready : Ready u) where
-  feeds-bytes : {m : ℕ} → Fed t u piece b c n m → Feeds t u piece b c n (Held.Bytes m)
-  feeds-bytes {m} f = record { ready = ready; fed = λ r e. let g : m ≡ r = cc in subst (Fed t u piece b c n) g f }
+  feeds-bytes : {m : ℕ} → Fed (both t u) piece b c n m → Feeds (both t u) piece b c n (Held.Bytes m)
+  feeds-bytes {m} f = record { ready = ready; fed = λ r e. let g : m ≡ r = cc in subst (Fed (both t u) piece b c n) g f }
 
-  pub feeds-stopped : Feeds t u piece b c n Held.Stopped
+  pub feeds-stopped : Feeds (both t u) piece b c n Held.Stopped
   feeds-stopped = record { ready = ready; fed = λ r e. let z : _≡_ {A = ℕ} 0 1 = cc in absurd (omega arith) }
 
 -- from place `at` on, with m bytes held, the rest of the piece leads to where the whole piece leads
@@ -36,7 +37,7 @@ walk-begins piece b n ready room = record { tables = refl; held = refl; within =
 module _ {t u : Tables} {piece b c : List ℕ} {n at m : ℕ} (w : Walking t u piece b c n at m) where
   module _ {c′ : List ℕ} {next r : ℕ} {whole : Bool} (k : Takes piece at c c′ m next r whole) where
     -- a whole line, and the tables after it
-    pub walk-turns : whole ≡ true → {v : Tables} → Answered u v (take r c′) → Walking t v piece b c′ n next 0
+    pub walk-turns : whole ≡ true → {v : Tables} → Answered (both u v) (take r c′) → Walking t v piece b c′ n next 0
     unfolding afterLines
     walk-turns e {v} a =
         let f = k .line e in
@@ -50,7 +51,7 @@ module _ {t u : Tables} {piece b c : List ℕ} {n at m : ℕ} (w : Walking t u p
         }
 
     -- none: the piece is at its end
-    pub walk-stops : whole ≡ false → Feeds t u piece b c′ n (Held.Bytes r)
+    pub walk-stops : whole ≡ false → Feeds (both t u) piece b c′ n (Held.Bytes r)
     unfolding afterLines
     walk-stops e =
         let f = k .part e .1 in
@@ -60,7 +61,7 @@ module _ {t u : Tables} {piece b c : List ℕ} {n at m : ℕ} (w : Walking t u p
           few = k .most;
         })
 
-  pub walk-ends : length piece ≤ at → Feeds t u piece b c n (Held.Bytes m)
+  pub walk-ends : length piece ≤ at → Feeds (both t u) piece b c n (Held.Bytes m)
   unfolding afterLines feed
   walk-ends h =
       let e : drop at piece ≡ [] = drop-of-length-le piece h in
@@ -77,7 +78,7 @@ pub record Reading (t : Tables) (p q b c : List ℕ) (m : ℕ) : Type 0 where
 pub read-begins : {t : Tables} (p b : List ℕ) → Ready t → 81 ≤ length b → Reading t p p b b 0
 read-begins p b ready long = record { ready = ready; room = record { few = omega arith; long = long }; piece = refl; held = refl }
 
-pub read-turns : {t u : Tables} {p q r b c d part : List ℕ} {m k : ℕ} {o : Held} → Reading t p q b c m → length r ≡ length q → length d ≡ length c → Feeds t u part c d m o → o ≡ Held.Bytes k → Reading u p r b d k
+pub read-turns : {t u : Tables} {p q r b c d part : List ℕ} {m k : ℕ} {o : Held} → Reading t p q b c m → length r ≡ length q → length d ≡ length c → Feeds (both t u) part c d m o → o ≡ Held.Bytes k → Reading u p r b d k
 read-turns {k = k} w e g f h = record { ready = f .ready; room = record { few = f .fed k h .few; long = omega (arith, w .room .long) }; piece = e ∙ w .piece; held = g ∙ w .held }
 
 -- ---- what is held at the end
@@ -87,7 +88,7 @@ unfolding afterLines
 last-none t [] e = refl
 last-none t (x ∷ l) e = absurd (omega arith)
 
-pub last-some : {t u : Tables} (l : List ℕ) → (length l ≡ 0 → ⊥) → Answered t u l → u ≡ afterLines t (last l)
+pub last-some : {t u : Tables} (l : List ℕ) → (length l ≡ 0 → ⊥) → Answered (both t u) l → u ≡ afterLines t (last l)
 unfolding afterLines
 last-some [] f a = absurd (f refl)
 last-some (x ∷ l) f a = a .tables

@@ -4,7 +4,7 @@ use libc::STDOUT_FILENO;
 ghost use Prim.Native.Nat.{_≤_};
 ghost use mathlib.Core.Path.{_≡_};
 ghost use lib.ListN.{length};
-ghost use Rattle.tables.specs.Tables.{tables};
+ghost use Rattle.tables.specs.Lent.{lent, given};
 ghost use Rattle.line.specs.Lines.{Room, last};
 ghost use Rattle.replay.specs.Room.{Ready};
 ghost use Rattle.log.specs.Pieces.{afterLines, Answered, Feeds};
@@ -26,8 +26,8 @@ fn answer_line(
     rosters: &mut [u8],
     line: &[u8],
 ) -> bool
-    requires { ⌜ Ready (tables (now head) (now zones) (now cars) (now spots) (now starts) (now entries) (now rosters)) ⌝ }
-    ensures { λ _. ⌜ Answered (tables (now (head .entry)) (now (zones .entry)) (now (cars .entry)) (now (spots .entry)) (now (starts .entry)) (now (entries .entry)) (now (rosters .entry))) (tables (now (head .exit)) (now (zones .exit)) (now (cars .exit)) (now (spots .exit)) (now (starts .exit)) (now (entries .exit)) (now (rosters .exit))) (now (line .entry)) ⌝ }
+    requires { ⌜ Ready (given head zones cars spots starts entries rosters) ⌝ }
+    ensures { λ _. ⌜ Answered (lent head zones cars spots starts entries rosters) (now (line .entry)) ⌝ }
 {
     let mut out = [0u8; 768];
     let n = replay::step(
@@ -57,9 +57,9 @@ fn answer_piece(
     held: &mut [u8],
     n: usize,
 ) -> Held
-    requires { ⌜ Ready (tables (now head) (now zones) (now cars) (now spots) (now starts) (now entries) (now rosters)) ⌝ }
+    requires { ⌜ Ready (given head zones cars spots starts entries rosters) ⌝ }
     requires { ⌜ Room (now held) n ⌝ }
-    ensures { λ r. ⌜ Feeds (tables (now (head .entry)) (now (zones .entry)) (now (cars .entry)) (now (spots .entry)) (now (starts .entry)) (now (entries .entry)) (now (rosters .entry))) (tables (now (head .exit)) (now (zones .exit)) (now (cars .exit)) (now (spots .exit)) (now (starts .exit)) (now (entries .exit)) (now (rosters .exit))) (now (piece .entry)) (now (held .entry)) (now (held .exit)) n r ⌝ }
+    ensures { λ r. ⌜ Feeds (lent head zones cars spots starts entries rosters) (now (piece .entry)) (now (held .entry)) (now (held .exit)) n r ⌝ }
 {
     let mut at = 0;
     let mut many = n;
@@ -98,8 +98,8 @@ fn answer_last(
     rosters: &mut [u8],
     line: &[u8],
 )
-    requires { ⌜ Ready (tables (now head) (now zones) (now cars) (now spots) (now starts) (now entries) (now rosters)) ⌝ }
-    ensures { λ _. ⌜ (tables (now (head .exit)) (now (zones .exit)) (now (cars .exit)) (now (spots .exit)) (now (starts .exit)) (now (entries .exit)) (now (rosters .exit))) ≡ afterLines (tables (now (head .entry)) (now (zones .entry)) (now (cars .entry)) (now (spots .entry)) (now (starts .entry)) (now (entries .entry)) (now (rosters .entry))) (last (now (line .entry))) ⌝ }
+    requires { ⌜ Ready (given head zones cars spots starts entries rosters) ⌝ }
+    ensures { λ _. ⌜ lent head zones cars spots starts entries rosters .exit ≡ afterLines (lent head zones cars spots starts entries rosters .entry) (last (now (line .entry))) ⌝ }
 {
     if line.len() == 0 {
         return;
@@ -120,7 +120,7 @@ fn answer_all(
     piece: &mut [u8],
     held: &mut [u8],
 )
-    requires { ⌜ Ready (tables (now head) (now zones) (now cars) (now spots) (now starts) (now entries) (now rosters)) ⌝ }
+    requires { ⌜ Ready (given head zones cars spots starts entries rosters) ⌝ }
     requires { ⌜ 81 ≤ length (now held) ⌝ }
 {
     let mut many = 0;

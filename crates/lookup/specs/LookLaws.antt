@@ -22,9 +22,11 @@ use Rattle.squares.specs.DifferLaws.{Apart, apart-none, steps-apart}
 use Rattle.tables.specs.Tables.{Tables, shapeOf, rectOf, stands, zoneRoom, zoneHolds}
 use Rattle.tables.specs.Derived.{place, on}
 use Rattle.tables.specs.Sound.{Sound}
+use Rattle.tables.specs.RecordLaws.{zone-holds}
 use Rattle.tables.specs.PlaceLaws.{place-below, place-parent}
 use Rattle.tables.specs.Runs.{parentOf, run, gathered, only, any, outside, Gathers}
 use Rattle.tables.specs.RunLaws.{onCell, holds→level, level→holds}
+use Rattle.tables.specs.CheckLaws.{size-of}
 use Rattle.tables.specs.GatherLaws.{front-gather, gathered-sound}
 use Rattle.lookup.specs.Looks.{lookedInto, Looks, Crosses}
 
@@ -155,20 +157,20 @@ unfolding listed
     (lt-or-le (shapeOf t .k - i) m)
 
 module _ {t : Tables} (sound : Sound t) (x y : ℕ) (column : x < width (shapeOf t)) (row : y < height (shapeOf t)) (room : ℕ) (enough : zoneRoom t ≤ room) where
-  looked-levels : (f : ℕ → Bool) (m : ℕ) → m ≤ shapeOf t .k + 1 → lookedInto f (shapeOf t) x y (t .starts) (t .entries) room m ≡ keep (listed f t x y m) (upto (zoneRoom t))
+  looked-levels : (f : ℕ → Bool) (m : ℕ) → m ≤ shapeOf t .k + 1 → lookedInto f (shapeOf t) x y (t .derived .starts) (t .derived .entries) room m ≡ keep (listed f t x y m) (upto (zoneRoom t))
   unfolding lookedInto listed
   looked-levels f zero h = sym (keep-none (λ (z : ℕ). false) (upto (zoneRoom t)) (λ z m. refl))
   looked-levels f (suc m) h =
       let i = shapeOf t .k - m in
       let n = number (shapeOf t) i x y in
       let there = place-below (shapeOf t) i n (omega arith) (number-below (shapeOf t) i x y (omega arith) column row) in
-      ap (gathered room (only f (run (t .starts) (t .entries) (place (shapeOf t) i n)))) (looked-levels f m (omega arith)) ∙ gathered-sound sound (place (shapeOf t) i n) there room enough f (listed f t x y m)
+      ap (gathered room (only f (run (t .derived .starts) (t .derived .entries) (place (shapeOf t) i n)))) (looked-levels f m (omega arith)) ∙ gathered-sound sound (place (shapeOf t) i n) there room enough f (listed f t x y m)
 
   few : (z : ℕ) → z < zoneRoom t → z < 256
-  few z h = omega (arith, sound .size .room .zones-few)
+  few z h = omega (arith, size-of sound .room .zones-few)
 
   -- looking into all squares of a cell finds the standing zones that hold it
-  pub looked-holds : lookedInto any (shapeOf t) x y (t .starts) (t .entries) room (shapeOf t .k + 1) ≡ keep (λ (z : ℕ). zoneHolds t z x y) (upto (zoneRoom t))
+  pub looked-holds : lookedInto any (shapeOf t) x y (t .derived .starts) (t .derived .entries) room (shapeOf t .k + 1) ≡ keep (λ (z : ℕ). zoneHolds t z x y) (upto (zoneRoom t))
   looked-holds =
       looked-levels any (shapeOf t .k + 1) (omega arith) ∙ keep-ext (listed any t x y (shapeOf t .k + 1)) (λ (z : ℕ). zoneHolds t z x y) (upto (zoneRoom t))
       (λ z m.
@@ -178,18 +180,17 @@ module _ {t : Tables} (sound : Sound t) (x y : ℕ) (column : x < width (shapeOf
       (λ (e : zoneHolds t z x y ≡ true). let a = holds→level t x y z column row small e in →listed any t x y (shapeOf t .k + 1) (a .0) z (a .1) (omega arith) (a .2) refl))
 
   standing : (z : ℕ) → zoneHolds t z x y ≡ true → stands t z ≡ true
-  unfolding zoneHolds
-  standing z e = and→ (stands t z) (holds (rectOf t z) x y) e .0
+  standing z e = and→ (stands t z) (holds (rectOf t z) x y) (sym (zone-holds t z x y) ∙ e) .0
 
   -- a zone of the table holds another cell, or is outside of it
-  held-or-outside : (x′ y′ z : ℕ) → z < zoneRoom t → stands t z ≡ true → outside (t .zones) x′ y′ z ≡ not (zoneHolds t z x′ y′)
-  unfolding outside zoneHolds
-  held-or-outside x′ y′ z h e = rw (e, lt-ltb (4 * z + 3) (length (t .zones)) (omega (arith, sound .size .lengths .zones)))
+  held-or-outside : (x′ y′ z : ℕ) → z < zoneRoom t → stands t z ≡ true → outside (t .records .zones) x′ y′ z ≡ not (zoneHolds t z x′ y′)
+  unfolding outside
+  held-or-outside x′ y′ z h e = rw (zone-holds t z x′ y′, e, lt-ltb (4 * z + 3) (length (t .records .zones)) (omega (arith, size-of sound .lengths .zones)))
 
   -- looking into the squares that differ from another cell's finds those that hold the one and not the other
   module _ (x′ y′ d : ℕ) (column′ : x′ < width (shapeOf t)) (row′ : y′ < height (shapeOf t)) (above : (i : ℕ) → i ≤ shapeOf t .k → d ≤ shapeOf t .k - i → number (shapeOf t) i x y ≡ number (shapeOf t) i x′ y′) (most : d ≤ shapeOf t .k + 1) where
     abbrev away : ℕ → Bool
-    away = outside (t .zones) x′ y′
+    away = outside (t .records .zones) x′ y′
 
     found-away : (z : ℕ) → z < zoneRoom t → listed away t x y d z ≡ true → (zoneHolds t z x y && not (zoneHolds t z x′ y′)) ≡ true
     found-away z h e =
@@ -209,7 +210,7 @@ module _ {t : Tables} (sound : Sound t) (x y : ℕ) (column : x < width (shapeOf
         absurd (true-not-false (not (zoneHolds t z x′ y′)) (a .1) (ap not q)))
         (lt-or-le (shapeOf t .k - b .0) d)) (b .2) (held-or-outside x′ y′ z h (standing z (a .0)) ∙ a .1)
 
-    pub looked-apart : lookedInto away (shapeOf t) x y (t .starts) (t .entries) room d ≡ keep (λ (z : ℕ). zoneHolds t z x y && not (zoneHolds t z x′ y′)) (upto (zoneRoom t))
+    pub looked-apart : lookedInto away (shapeOf t) x y (t .derived .starts) (t .derived .entries) room d ≡ keep (λ (z : ℕ). zoneHolds t z x y && not (zoneHolds t z x′ y′)) (upto (zoneRoom t))
     looked-apart =
         looked-levels away d most ∙ keep-ext (listed away t x y d) (λ (z : ℕ). zoneHolds t z x y && not (zoneHolds t z x′ y′)) (upto (zoneRoom t))
         (λ z m.

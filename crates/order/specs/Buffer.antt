@@ -1,10 +1,10 @@
 -- What the functions over a lent buffer promise.
-use Prim.Native.Nat.{ℕ, suc, _+_, _≤_}
+use Prim.Native.Nat.{ℕ, suc, _+_, _-_, _≤_}
 use mathlib.Core.Path.{_≡_}
-use mathlib.Core.Bool.{cond}
+use mathlib.Core.Bool.{Bool, true, cond}
 use mathlib.Core.List.{List, [], _∷_}
-use lib.Dec.{ltb}
-use lib.ListN.{length, take}
+use lib.Dec.{ltb, eqb}
+use lib.ListN.{length, getD, take}
 use lib.Seq.{sets}
 use Rattle.order.specs.Order.{insert, over}
 
@@ -12,6 +12,10 @@ use Rattle.order.specs.Order.{insert, over}
 unfoldable pub rank : ℕ → List ℕ → ℕ
 rank x [] = 0
 rank x (y ∷ ys) = cond (ltb y x) (suc (rank x ys)) 0
+
+-- the last of the first n numbers is below x, or there is none
+unfoldable pub endsBelow : List ℕ → ℕ → ℕ → Bool
+endsBelow l x n = cond (eqb n 0) true (ltb (getD l (n - 1) 0) x)
 
 pub record Ranked (x : ℕ) (l : List ℕ) (r : ℕ) : Type 0 where
   pub is : r ≡ rank x l

@@ -36,11 +36,11 @@ over-over l m b h =
     ap (λ (t : List ℕ). l ++ t)
     (ap (λ (n : ℕ). drop n (over m b)) (sym e) ∙ drop-append-add m (drop (length m) b) (length l - length m) ∙ drop-drop (length l - length m) (length m) b ∙ ap (λ (n : ℕ). drop n b) e)
 
-pub sets-append : (b : List ℕ) (i : ℕ) (l m : List ℕ) → sets b i (l ++ m) ≡ sets (sets b i l) (i + length l) m
+sets-append : (b : List ℕ) (i : ℕ) (l m : List ℕ) → sets b i (l ++ m) ≡ sets (sets b i l) (i + length l) m
 sets-append b i [] m = ap (λ (n : ℕ). sets b n m) (sym (add-zero i))
 sets-append b i (x ∷ l) m = sets-append (set b i x) (suc i) l m ∙ ap (λ (n : ℕ). sets (sets (set b i x) (suc i) l) n m) (omega arith)
 
-pub sets-over : (b l : List ℕ) → length l ≤ length b → sets b 0 l ≡ over l b
+sets-over : (b l : List ℕ) → length l ≤ length b → sets b 0 l ≡ over l b
 sets-over b l h = sets-eq l b 0 (omega arith) ∙ ap (λ (n : ℕ). l ++ drop n b) (zero-add (length l))
 
 pub wrote-none : (b : List ℕ) (at : ℕ) → Wrote b b at at []
@@ -88,7 +88,7 @@ rank-le x (y ∷ ys) = go (ltb y x) (rank-le x ys)
     go false h = omega arith
 
 -- x stands at its rank: it is there already
-pub insert-found : (x : ℕ) (l : List ℕ) → rank x l < length l → getD l (rank x l) 0 ≡ x → insert x l ≡ l
+insert-found : (x : ℕ) (l : List ℕ) → rank x l < length l → getD l (rank x l) 0 ≡ x → insert x l ≡ l
 unfolding rank
 insert-found x [] h e = absurd (omega arith)
 insert-found x (y ∷ ys) h e = ⊎-elim
@@ -99,7 +99,7 @@ insert-found x (y ∷ ys) h e = ⊎-elim
     (lt-or-eq-or-gt x y)
 
 -- x goes in at its rank
-pub insert-rank : (x : ℕ) (l : List ℕ) → (rank x l < length l → getD l (rank x l) 0 ≡ x → ⊥) → insert x l ≡ take (rank x l) l ++ x ∷ drop (rank x l) l
+insert-rank : (x : ℕ) (l : List ℕ) → (rank x l < length l → getD l (rank x l) 0 ≡ x → ⊥) → insert x l ≡ take (rank x l) l ++ x ∷ drop (rank x l) l
 unfolding rank insert
 insert-rank x [] f = refl
 insert-rank x (y ∷ ys) f = ⊎-elim
@@ -132,7 +132,7 @@ put-between x [] (suc a) m h = absurd (omega arith)
 put-between x (y ∷ b) (suc a) m h = rw suc-add (ap (λ (l : List ℕ). y ∷ l) (put-between x b a m (omega arith)))
 
 -- sliding x in at its rank, in the part that ends one past the first n, puts it among them
-pub put-slide : (x : ℕ) (b ys : List ℕ) (n at : ℕ) → n < length b → at ≤ n → ys ≡ take (length (midOf at (n + 1 - at) b)) (x ∷ midOf at (n + 1 - at) b) → putMid at (n + 1 - at) b ys ≡ over (take at (take n b) ++ x ∷ drop at (take n b)) b
+put-slide : (x : ℕ) (b ys : List ℕ) (n at : ℕ) → n < length b → at ≤ n → ys ≡ take (length (midOf at (n + 1 - at) b)) (x ∷ midOf at (n + 1 - at) b) → putMid at (n + 1 - at) b ys ≡ over (take at (take n b) ++ x ∷ drop at (take n b)) b
 put-slide x b ys n at h g e =
     let k : n + 1 - at ≡ suc (n - at) = omega arith in
     let m : at + (n - at) ≡ n = omega arith in

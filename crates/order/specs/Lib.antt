@@ -6,3 +6,4 @@ pub mod KeepLaws
 pub mod SumLaws
 pub mod RisingLaws
 pub mod BufferLaws
+pub mod RankLaws

@@ -1,6 +1,6 @@
 -- Lists in order: the numbers below n, those of a list with a property, strictly rising lists, an answer at the front of a buffer.
 use Prim.Native.Nat.{ℕ, zero, suc, _<_}
-use mathlib.Core.Bool.{Bool, cond, not}
+use mathlib.Core.Bool.{Bool, cond}
 use mathlib.Core.List.{List, [], _∷_, _++_, List·Memᴰ}
 use lib.ListN.{length, drop}
 use lib.Dec.{ltb, eqb}
@@ -28,10 +28,6 @@ pub data Rising : List ℕ → Type 0 where
 unfoldable pub insert : ℕ → List ℕ → List ℕ
 insert x [] = x ∷ []
 insert x (y ∷ ys) = cond (ltb x y) (x ∷ y ∷ ys) (cond (eqb x y) (y ∷ ys) (y ∷ insert x ys))
-
--- x taken out of a list
-abbrev pub remove : ℕ → List ℕ → List ℕ
-remove x l = keep (λ (y : ℕ). not (eqb y x)) l
 
 -- a list written to the front of a buffer, the rest of the buffer kept
 abbrev pub over : List ℕ → List ℕ → List ℕ

@@ -1,16 +1,16 @@
--- Laws of rising lists: equal by their members, and what insertion and removal do.
+-- Laws of rising lists: equal by their members, what insertion does, and members by their index.
 use Prim.Native.Nat.{ℕ, zero, suc, _<_, _≤_}
 use mathlib.Core.Path.{_≡_, refl, ap, sym, _∙_}
 use mathlib.Core.Logic.{_⊎_, inl, inr, ⊎-elim}
-use mathlib.Core.Bool.{Bool, true, false, cond, not, _&&_, _||_, or-true}
+use mathlib.Core.Bool.{Bool, true, false, cond, _||_, or-true}
 use mathlib.Core.List.{List, [], _∷_, List·Memᴰ, List·Memᴰ·head, List·Memᴰ·tail, List·Memᴰ·cases-cons, List·Memᴰ·not-nil}
 use native.Mathlib.Omega.{arith}
 use lib.Dec.{eqb}
 use lib.ListN.{length, getD}
 use borrow.Author.Tests.{lt-ltb, le-ltb, eq-eqb, ne-eqb}
-use Rattle.order.specs.Order.{span, upto, keep, Rising, none, more, insert, remove}
+use Rattle.order.specs.Order.{span, upto, keep, Rising, none, more, insert}
 use Rattle.order.specs.TestLaws.{lt-or-eq-or-gt}
-use Rattle.order.specs.KeepLaws.{span→, →span, keep→, →keep, keep-keep}
+use Rattle.order.specs.KeepLaws.{span→, →span, keep→, →keep}
 
 pub rising-span : (lo n : ℕ) → Rising (span lo n)
 unfolding span
@@ -30,7 +30,7 @@ head-least : {x y : ℕ} {xs ys : List ℕ} → Rising (x ∷ xs) → Rising (y 
 head-least {x} {y} {xs} {ys} (more h r) (more g s) m n = ⊎-elim (λ (e : x ≡ y). e) (λ (m′ : List·Memᴰ x ys). ⊎-elim (λ (e : y ≡ x). sym e) (λ (n′ : List·Memᴰ y xs). let a = g x m′ in let b = h y n′ in absurd (omega arith)) (List·Memᴰ·cases-cons n)) (List·Memᴰ·cases-cons m)
 
 -- two rising lists with the same members are equal
-pub rising-ext : {l m : List ℕ} → Rising l → Rising m → ((x : ℕ) → List·Memᴰ x l → List·Memᴰ x m) → ((x : ℕ) → List·Memᴰ x m → List·Memᴰ x l) → l ≡ m
+rising-ext : {l m : List ℕ} → Rising l → Rising m → ((x : ℕ) → List·Memᴰ x l → List·Memᴰ x m) → ((x : ℕ) → List·Memᴰ x m → List·Memᴰ x l) → l ≡ m
 rising-ext none none f g = refl
 rising-ext none (more {x = y} h s) f g = absurd (List·Memᴰ·not-nil (g y (List·Memᴰ·head refl)))
 rising-ext (more {x = x} h r) none f g = absurd (List·Memᴰ·not-nil (f x (List·Memᴰ·head refl)))
@@ -56,7 +56,7 @@ pub insert-above : (x y : ℕ) (ys : List ℕ) → y < x → insert x (y ∷ ys)
 unfolding insert
 insert-above x y ys h = rw (le-ltb x y (omega arith), ne-eqb x y (λ (e : x ≡ y). omega arith))
 
-pub insert→ : (x : ℕ) (l : List ℕ) (z : ℕ) → List·Memᴰ z (insert x l) → (z ≡ x) ⊎ List·Memᴰ z l
+insert→ : (x : ℕ) (l : List ℕ) (z : ℕ) → List·Memᴰ z (insert x l) → (z ≡ x) ⊎ List·Memᴰ z l
 unfolding insert
 insert→ x [] z m = List·Memᴰ·cases-cons m
 insert→ x (y ∷ ys) z m = ⊎-elim
@@ -66,7 +66,7 @@ insert→ x (y ∷ ys) z m = ⊎-elim
     (λ (h : y < x). ⊎-elim (λ (e : z ≡ y). inr (List·Memᴰ·head e)) (λ (n : List·Memᴰ z (insert x ys)). ⊎-elim (λ (e : z ≡ x). inl e) (λ (k : List·Memᴰ z ys). inr (List·Memᴰ·tail k)) (insert→ x ys z n)) (List·Memᴰ·cases-cons (rw (insert-above x y ys h) at m))))
     (lt-or-eq-or-gt x y)
 
-pub insert-new : (x : ℕ) (l : List ℕ) → List·Memᴰ x (insert x l)
+insert-new : (x : ℕ) (l : List ℕ) → List·Memᴰ x (insert x l)
 unfolding insert
 insert-new x [] = List·Memᴰ·head refl
 insert-new x (y ∷ ys) = ⊎-elim
@@ -76,7 +76,7 @@ insert-new x (y ∷ ys) = ⊎-elim
     (λ (h : y < x). rw (insert-above x y ys h) (List·Memᴰ·tail (insert-new x ys))))
     (lt-or-eq-or-gt x y)
 
-pub insert-old : (x : ℕ) (l : List ℕ) (z : ℕ) → List·Memᴰ z l → List·Memᴰ z (insert x l)
+insert-old : (x : ℕ) (l : List ℕ) (z : ℕ) → List·Memᴰ z l → List·Memᴰ z (insert x l)
 insert-old x [] z m = absurd (List·Memᴰ·not-nil m)
 insert-old x (y ∷ ys) z m = ⊎-elim
     (λ (h : x < y). rw (insert-below x y ys h) (List·Memᴰ·tail m))
@@ -85,7 +85,7 @@ insert-old x (y ∷ ys) z m = ⊎-elim
     (λ (h : y < x). rw (insert-above x y ys h) (⊎-elim (λ (e : z ≡ y). List·Memᴰ·head e) (λ (n : List·Memᴰ z ys). List·Memᴰ·tail (insert-old x ys z n)) (List·Memᴰ·cases-cons m))))
     (lt-or-eq-or-gt x y)
 
-pub rising-insert : (x : ℕ) (l : List ℕ) → Rising l → Rising (insert x l)
+rising-insert : (x : ℕ) (l : List ℕ) → Rising l → Rising (insert x l)
 unfolding insert
 rising-insert x [] r = more (λ y m. absurd (List·Memᴰ·not-nil m)) none
 rising-insert x (y ∷ ys) (more h r) = ⊎-elim
@@ -114,10 +114,6 @@ insert-keep p n x h = rising-is-keep (λ (y : ℕ). eqb y x || p y) n (insert x 
   where
     eq-or-ne : (a b : ℕ) → (a ≡ b) ⊎ (a ≡ b → ⊥)
     eq-or-ne a b = ⊎-elim (λ (k : a < b). inr (λ (e : a ≡ b). omega arith)) (⊎-elim (λ (e : a ≡ b). inl e) (λ (k : b < a). inr (λ (e : a ≡ b). omega arith))) (lt-or-eq-or-gt a b)
-
--- taking a number out of those below n with p
-pub remove-keep : (p : ℕ → Bool) (n x : ℕ) → remove x (keep p (upto n)) ≡ keep (λ (y : ℕ). p y && not (eqb y x)) (upto n)
-remove-keep p n x = keep-keep (λ (y : ℕ). not (eqb y x)) p (upto n)
 
 -- ---- members by their index
 
@@ -149,7 +145,7 @@ pub →rising : (l : List ℕ) → ((i : ℕ) → suc i < length l → getD l i 
 -- ---- a rising list with the full count
 
 -- a rising list within another is no longer
-pub rising-within : {l m : List ℕ} → Rising l → Rising m → ((x : ℕ) → List·Memᴰ x l → List·Memᴰ x m) → length l ≤ length m
+rising-within : {l m : List ℕ} → Rising l → Rising m → ((x : ℕ) → List·Memᴰ x l → List·Memᴰ x m) → length l ≤ length m
 rising-within none s f = omega arith
 rising-within (more {x = x} h r) none f = absurd (List·Memᴰ·not-nil (f x (List·Memᴰ·head refl)))
 rising-within (more {x = x} {xs = xs} h r) (more {x = y} {xs = ys} k s) f = ⊎-elim
@@ -161,7 +157,7 @@ rising-within (more {x = x} {xs = xs} h r) (more {x = y} {xs = ys} k s) f = ⊎-
     later n z m = ⊎-elim (λ (q : z ≡ y). ⊎-elim (λ (e : z ≡ x). absurd (omega (arith, k x n))) (λ (g : List·Memᴰ z xs). absurd (omega (arith, k x n, h z g))) (List·Memᴰ·cases-cons m)) (λ (g : List·Memᴰ z ys). g) (List·Memᴰ·cases-cons (f z m))
 
 -- and one that is as long is the whole
-pub rising-whole : {l m : List ℕ} → Rising l → Rising m → ((x : ℕ) → List·Memᴰ x l → List·Memᴰ x m) → length l ≡ length m → l ≡ m
+rising-whole : {l m : List ℕ} → Rising l → Rising m → ((x : ℕ) → List·Memᴰ x l → List·Memᴰ x m) → length l ≡ length m → l ≡ m
 rising-whole none none f e = refl
 rising-whole none (more h s) f e = absurd (omega arith)
 rising-whole (more {x = x} h r) none f e = absurd (omega arith)

@@ -3,7 +3,25 @@ ghost use Prim.Native.Nat.{_≤_};
 ghost use mathlib.Core.Path.{_≡_};
 ghost use mathlib.Core.List.{_∷_};
 ghost use lib.ListN.{length, set, take};
-ghost use Rattle.order.specs.Buffer.{Ranked, Put};
+ghost use Rattle.order.specs.Buffer.{Ranked, Put, endsBelow};
+
+// A number as an index.
+pub fn wide(x: u32) -> usize
+    ensures { λ r. ⌜ r ≡ x ⌝ }
+{
+    x as usize
+}
+
+// Whether the last of the first n numbers is below x.
+pub fn ends_below(list: &[u32], x: usize, n: usize) -> bool
+    requires { ⌜ n ≤ length (now list) ⌝ }
+    ensures { λ r. ⌜ r ≡ endsBelow (now (list .entry)) x n ⌝ }
+{
+    if n == 0 {
+        return true;
+    }
+    wide(list[n - 1]) < x
+}
 
 // How many numbers at the front of `list` are below x.
 pub fn rank_of(list: &[u32], x: u32) -> usize

@@ -93,12 +93,7 @@ module _ (s : Bool) (m : ℕ) (e : ℤ) (held : T (fits binary32 (fin s m e))) w
       let bits = toBits binary32 (fin s m e) in
       rw (lt-ltb _ _ (fields .1), not-le bits (2 ^ 31) s (sym (fields .0)), scaled (whole bits) (2 ^ 149) (m * up e) (down e) side (pow-pos 149) (down-pos e) exact)
 
--- no NaN and no infinity is
+-- no NaN is on the map
 pub nan-off : (side : ℕ) → onMap side nan ≡ false
 unfolding onMap isNan
 nan-off side = refl
-
-pub infinity-off : (side : ℕ) (s : Bool) → onMap side (inf s) ≡ false
-unfolding onMap inRange isNan toBits
-infinity-off side true = refl
-infinity-off side false = refl

@@ -1,1 +1,3 @@
-pub mod Promises
+pub mod Promise
+pub mod Events
+pub mod PromiseLaws

@@ -1,12 +1,5 @@
-// What the calls on a town answer and promise.
-mod answers; // answers.rt: what the calls answer
+// What every call on the tables promises, and the refusals that several calls share.
+mod refusals; // refusals.rt: what calls on a standing zone, and on a car on the map, ask first
 
-pub use answers::Added;
-pub use answers::Departed;
-pub use answers::Judged;
-pub use answers::Listed;
-pub use answers::Opened;
-pub use answers::Removed;
-pub use answers::Reported;
-pub use answers::Searched;
-pub use answers::Traced;
+pub use refusals::refuse_car;
+pub use refusals::refuse_zone;

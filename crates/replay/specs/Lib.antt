@@ -1,6 +1,6 @@
 pub mod Room
 pub mod Replies
 pub mod RoomLaws
+pub mod CallLaws
 pub mod ReplyLaws
-pub mod PartLaws
-pub mod ClosedLaws
+pub mod Sentences

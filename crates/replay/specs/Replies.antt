@@ -1,78 +1,70 @@
--- What a line of the log answers, and what it makes of the tables.
-use Prim.Native.Nat.{ℕ, zero, suc, _+_}
+-- What a line of the log answers, and what it makes of the tables: its record is a call, its answer the text of that call's
+-- outcome.
+use Prim.Native.Nat.{ℕ}
 use mathlib.Core.Path.{_≡_}
+use mathlib.Core.Bool.{true, _&&_}
 use mathlib.Core.List.{List, [], _∷_}
+use mathlib.Core.Option.{Option, none, some}
+use denote.Triple.Both.{Both}
 use lib.Dec.{leb}
 use lib.Ieee.{binary32, ofBits}
-use lib.ListN.{length}
-use Rattle.squares.specs.declared.shape.Shape.{Shape}
-use Rattle.squares.specs.declared.shape.Rect.{Rect}
-use Rattle.squares.specs.Shape.{allowed, width, height}
-use Rattle.squares.specs.Cut.{cut}
-use Rattle.squares.specs.Promises.{unless}
+use lib.ListN.{replicate}
+use Rattle.squares.specs.Shape.{width, height}
 use Rattle.position.specs.declared.Position.{Position}
-use Rattle.tables.specs.Tables.{Tables, shapeOf}
-use Rattle.tables.specs.Steps.{addStep, removeStep, reportStep, leaveStep}
-use Rattle.promises.specs.Promises.{emptyTown, addRefusal, removeRefusal, reportRefusal, leaveRefusal, searchRefusal, listRefusal, roster, found, entered, left, squaresLooked, zonesOf}
+use Rattle.model.specs.Model.{Opening, Call, opening, adding, removing, reporting, leaving, searching, askRoster, Event, change, Lengths, outcome}
+use Rattle.tables.specs.Tables.{Tables, townOf}
+use Rattle.tables.specs.Check.{sized}
+use Rattle.tables.specs.Steps.{step}
+use Rattle.promises.specs.Events.{asked}
 use Rattle.line.specs.declared.records.Record.{Record}
 use Rattle.line.specs.declared.records.Record.the-variants.{Bad, Open, Add, Remove, Report, Leave, Search, Roster}
-use Rattle.line.specs.Text.{Part, number, members, answer, Answers}
-use Rattle.replay.specs.Room.{lent, into, Ready}
+use Rattle.line.specs.Text.{number, answer, Answers}
+use Rattle.texts.specs.Texts.{Letter, textOf}
+use Rattle.replay.specs.Room.{part, into, Ready}
 
 -- the position with these bits
 abbrev pub positionOf : ℕ → ℕ → Position
 positionOf x y = record { x = ofBits binary32 x; y = ofBits binary32 y }
 
--- 1 for a shape beyond the bounds, then 3 for one beyond the program's room
-unfoldable pub openBars : Shape → ℕ
-openBars s = unless (allowed s) 1 (unless (leb (width s) 64) 3 (unless (leb (height s) 64) 3 0))
+-- a buffer of the program's
+abbrev pub blank : ℕ → List ℕ
+blank n = replicate n 0
 
--- a record's letter, the number that refuses it or 0, and where nothing does: the fields of its answer, and the town's
--- tables after it
-pub record Outcome : Type 0 where
-  pub letter : ℕ
-  pub refusal : ℕ
-  pub fields : List Part
-  pub next : Tables
+-- what a line asks: a letter and a call, or nothing
+abbrev pub Line : Type 0
+Line = Option (Letter × Call)
 
--- the outcome of a record on the tables as they are lent
-abbrev pub outcome : Tables → Record → Outcome
-outcome t Bad = record { letter = 63; refusal = 14; fields = []; next = t }
-outcome t (Open k P Q) =
-    let s : Shape = record { k = k; P = P; Q = Q } in
-    record { letter = 77; refusal = openBars s; fields = []; next = emptyTown s 16 64 2048 }
-outcome t (Add z a b w h) =
-    let r : Rect = record { a = a; b = b; w = w; h = h } in
-    record { letter = 65; refusal = addRefusal t z r; fields = number (length (cut (shapeOf t) r)) ∷ number (length (roster (addStep t z r) z)) ∷ []; next = addStep t z r }
-outcome t (Remove z) = record { letter = 68; refusal = removeRefusal t z; fields = []; next = removeStep t z }
-outcome t (Report c x y) =
-    let p = positionOf x y in
-    record { letter = 80; refusal = reportRefusal t c p 16 16; fields = number (squaresLooked t c p) ∷ members (entered t c p) ∷ members (left t c p) ∷ []; next = reportStep t c p }
-outcome t (Leave c) = record { letter = 76; refusal = leaveRefusal t c 16; fields = number (shapeOf t .k + 1) ∷ members (zonesOf t c) ∷ []; next = leaveStep t c }
-outcome t (Search x y) =
-    let p = positionOf x y in
-    record { letter = 83; refusal = searchRefusal t p 16; fields = number (shapeOf t .k + 1) ∷ members (found t p) ∷ []; next = t }
-outcome t (Roster z) = record { letter = 82; refusal = listRefusal t z 64; fields = number (length (roster t z)) ∷ members (roster t z) ∷ []; next = t }
+abbrev pub callOf : Record → Line
+callOf Bad = none
+callOf (Open k P Q) = some (Letter.M, opening (asked k P Q 16 64 2048))
+callOf (Add z a b w h) = some (Letter.A, adding z (record { a = a; b = b; w = w; h = h }))
+callOf (Remove z) = some (Letter.D, removing z)
+callOf (Report c x y) = some (Letter.P, reporting c (positionOf x y) (blank 16) (blank 16))
+callOf (Leave c) = some (Letter.L, leaving c (blank 16))
+callOf (Search x y) = some (Letter.S, searching (positionOf x y) (blank 16))
+callOf (Roster z) = some (Letter.R, askRoster z (blank 64))
 
--- a refusal's number alone, or 0 and the fields
-abbrev pub spoken : ℕ → List Part → List Part
-spoken zero fields = number 0 ∷ fields
-spoken (suc n) fields = number (suc n) ∷ []
+-- the lengths that a call is told: those of the part that is lent; for an open, there is room for 64 by 64
+abbrev pub roomOf : Tables → Lengths
+roomOf t = record { own = sized (part t); asked = λ (o : Opening). leb (width (o .shape)) 64 && leb (height (o .shape)) 64 }
 
-abbrev pub textOf : Outcome → List ℕ
-textOf o = answer (o .letter) (spoken (o .refusal) (o .fields))
+-- what a call leaves
+abbrev pub outcomeOf : Tables → Call → Event
+outcomeOf t call = outcome (roomOf t) true (townOf (part t)) call
 
--- a refusal changes nothing
-abbrev pub kept : ℕ → Tables → Tables → Tables
-kept zero t u = u
-kept (suc n) t u = t
+-- the text of a line's answer; a line that is no record answers ? and 14
+abbrev pub reply : Tables → Line → List ℕ
+reply t none = answer 63 (number 14 ∷ [])
+reply t (some line) = textOf (line .0) (outcomeOf t (line .1) .result .answer) (outcomeOf t (line .1) .result .buffers)
 
-abbrev pub after : Tables → Outcome → Tables
-after t o = kept (o .refusal) t (into t (o .next))
+-- the program's tables after a line; a refusal changes nothing
+abbrev pub tablesAfter : Tables → Line → Tables
+tablesAfter t none = t
+tablesAfter t (some line) = into t (step (change (outcomeOf t (line .1))) (part t))
 
--- the program's tables are t at entry and t′ at exit; the answer stands at the start of the buffer, b before and b′ then, and
--- is n bytes long
-pub record Replies (t t′ : Tables) (asked : Record) (b b′ : List ℕ) (n : ℕ) : Type 0 where
-  pub text : Answers b b′ n (textOf (outcome (lent t) asked))
-  pub tables : t′ ≡ after t (outcome (lent t) asked)
-  pub ready : Ready t′
+-- t has the program's tables at entry and at exit; the answer stands at the start of the buffer, b before and b′ then, and is
+-- n bytes long
+pub record Replies (t : Both Tables Tables) (line : Line) (b b′ : List ℕ) (n : ℕ) : Type 0 where
+  pub text : Answers b b′ n (reply (t .entry) line)
+  pub tables : t .exit ≡ tablesAfter (t .entry) line
+  pub ready : Ready (t .exit)

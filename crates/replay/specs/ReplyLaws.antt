@@ -1,254 +1,164 @@
--- How a call's promise and the text of its answer make a record's outcome.
-use Prim.Native.Nat.{ℕ, zero, suc, _+_, _<_, _≤_}
+-- How a call's promise and the text of its answer make the reply to a line: once for the calls on a town, once for an open.
+use Prim.Native.Nat.{ℕ, suc, _+_, _≤_}
 use mathlib.Core.Path.{_≡_, refl, ap, sym, subst, _∙_}
-use mathlib.Core.Bool.{Bool, true, false}
-use mathlib.Core.List.{List, [], _∷_}
+use mathlib.Core.Bool.{true, false, _&&_}
+use mathlib.Core.List.{List, [], _∷_, _++_}
+use mathlib.Core.Option.{none, some}
 use native.Mathlib.Omega.{arith}
-use lib.Dec.{lit<, lit≤}
-use lib.ListN.{length, take}
+use lib.Dec.{leb}
+use denote.Triple.Both.{Both}
+use lib.ListN.{length, take, drop}
 use lib.Seq.{length-take-le}
-use borrow.Author.Tests.{le-leb, lt-leb, leb-true}
-use Rattle.order.specs.Order.{upto, keep}
-use Rattle.order.specs.KeepLaws.{length-keep, length-span}
-use Rattle.order.specs.BufferLaws.{take-over}
-use Rattle.squares.specs.declared.shape.Shape.{Shape}
-use Rattle.squares.specs.declared.shape.Rect.{Rect}
-use Rattle.squares.specs.Shape.{Allowed, allowed, width, height}
+use borrow.Author.Tests.{le-leb}
+use Rattle.order.specs.Order.{over}
+use Rattle.order.specs.BufferLaws.{count-front}
+use Rattle.squares.specs.Shape.{shape, allowed, width, height}
 use Rattle.squares.specs.Squares.{squares}
-use Rattle.squares.specs.ShapeLaws.{→allowed}
-use Rattle.squares.specs.PromiseLaws.{by-refusal, unless→}
-use Rattle.position.specs.declared.Position.{Position}
-use Rattle.tables.specs.Tables.{Tables, tables, shapeOf, entryRoom}
-use Rattle.tables.specs.Check.{sized, Roomy, Long}
-use Rattle.tables.specs.CheckLaws.{→roomy, →long}
+use Rattle.squares.specs.ShapeLaws.{allowed→}
+use Rattle.squares.specs.Refusals.{refuse, Result, result}
+use Rattle.squares.specs.RefusalLaws.{by-refusal, stops}
+use Rattle.model.specs.Answers.{Values, numbers}
+use Rattle.model.specs.Model.{Opening, Call, opening, Event, change, meaning, refusal}
+use Rattle.tables.specs.Tables.{Tables, townOf}
+use Rattle.tables.specs.Sizes.{Long}
+use Rattle.tables.specs.CheckLaws.{roomy→, →long}
+use Rattle.tables.specs.Lent.{both}
 use Rattle.tables.specs.Sound.{Sound}
-use Rattle.promises.specs.declared.answers.Opened.{Opened}
-use Rattle.promises.specs.declared.answers.Searched.{Searched}
-use Rattle.promises.specs.declared.answers.Listed.{Listed}
-use Rattle.promises.specs.declared.answers.Removed.{Removed}
-use Rattle.promises.specs.declared.answers.Added.{Added}
-use Rattle.promises.specs.declared.answers.Reported.{Reported}
-use Rattle.promises.specs.declared.answers.Departed.{Departed}
-use Rattle.promises.specs.Promises.{Opens, openRefusal, emptyTown, Adds, addBars, addRefusal, Removes, removeRefusal, Reports, reportRefusal, Leaves, leaveRefusal, Searches, searchRefusal, Lists, listRefusal}
-use Rattle.zoning.specs.AddLaws.{bars-none, add-room}
-use Rattle.zoning.specs.OpenLaws.{empty-sound, open-0}
-use Rattle.seasons.specs.Events.{added, removed, reported, left as departed}
-use Rattle.seasons.specs.PromiseLaws.{next}
-use Rattle.line.specs.declared.records.Record.{Record}
-use Rattle.line.specs.declared.records.Record.the-variants.{Bad, Open, Add, Remove, Report, Leave, Search, Roster}
-use Rattle.line.specs.Text.{Part, number, answer, Answers}
-use Rattle.tables.specs.Derived.{used}
-use Rattle.squares.specs.Cut.{cut}
-use Rattle.replay.specs.Room.{lent, into, Ready}
-use Rattle.replay.specs.Replies.{positionOf, openBars, outcome, spoken, kept, Replies}
-use Rattle.wording.specs.Texts.{openedParts, removedParts, addedParts, addedSquares, addedCars, reportedParts, reportedCame, reportedGone, departedParts, departedGone, searchedParts, searchedCount, listedParts, listedCount}
-use Rattle.replay.specs.RoomLaws.{squares-64, lent-sound, zones-16, cars-64, entries-2048, kept-back, ready-into, ready-same}
+use Rattle.tables.specs.Steps.{emptyTown, step}
+use Rattle.promises.specs.Events.{asked}
+use Rattle.promises.specs.Promise.{lengthsIn, means, bars, Keeps}
+use Rattle.promises.specs.PromiseLaws.{keeps-told, trusts-sound}
+use Rattle.edits.specs.EmptyLaws.{empty-sound}
+use Rattle.history.specs.HistoryLaws.{next}
+use Rattle.line.specs.declared.records.Record.the-variants.{Open}
+use Rattle.line.specs.Text.{number, answer, Answers}
+use Rattle.texts.specs.Texts.{Letter, textOf}
+use Rattle.replay.specs.Room.{placesOf, withStarts, part, into, Ready}
+use Rattle.replay.specs.Replies.{Line, callOf, roomOf, outcomeOf, Replies}
+use Rattle.replay.specs.CallLaws.{asksTown, own-passes, own-alone, Few, few}
+use Rattle.replay.specs.RoomLaws.{squares-64, part-sound, places-within, kept-back, put-back, ready-into, ready-same}
 
-spoken-alone : (n : ℕ) (fields : List Part) → (n ≡ 0 → ⊥) → spoken n fields ≡ number n ∷ []
-spoken-alone zero fields f = absurd (f refl)
-spoken-alone (suc n) fields f = refl
+-- a call that left the model's outcome and its step
+module _ {t u : Tables} {call : Call} {left : Result Values} (told : _≡_ {A = Event} (record { call = call; result = left }) (outcomeOf t call)) (done : u ≡ step (change (outcomeOf t call)) (part t)) (ready : Ready (into t u)) where
+  replies : {letter : Letter} {starts b b′ : List ℕ} {n : ℕ} → starts ≡ over (u .derived .starts) (t .derived .starts) → Answers b b′ n (textOf letter (left .answer) (left .buffers)) → Replies (both t (withStarts u starts)) (some (letter, call)) b b′ n
+  replies {letter} {starts} {b} {b′} {n} back w = subst (λ (s : List ℕ). Replies (both t (withStarts u s)) (some (letter, call)) b b′ n) (sym back) (record {
+    text = subst (λ (x : Event). Answers b b′ n (textOf letter (x .result .answer) (x .result .buffers))) told w;
+    tables = ap (into t) done;
+    ready = ready;
+  })
 
-kept-same : (n : ℕ) (t u : Tables) → (n ≡ 0 → ⊥) → kept n t u ≡ t
-kept-same zero t u f = absurd (f refl)
-kept-same (suc n) t u f = refl
+-- the line may be said another way
+pub replies-as : {t : Both Tables Tables} {line other : Line} {b b′ : List ℕ} {n : ℕ} → Replies t line b b′ n → other ≡ line → Replies t other b b′ n
+replies-as {t} {line} {other} {b} {b′} {n} w e = subst (λ (a : Line). Replies t a b b′ n) (sym e) w
 
--- so many of the numbers below n are at most n
-few-kept : (f : ℕ → Bool) (m n k : ℕ) → m ≡ length (keep f (upto n)) → n ≡ k → m ≤ k
-few-kept f m n k e g = omega (arith, length-keep f (upto n), length-span 0 n)
+-- no record
+pub bad-replies : {t : Tables} {b b′ : List ℕ} {n : ℕ} → Ready t → Answers b b′ n (answer 63 (number 14 ∷ [])) → Replies (both t t) none b b′ n
+bad-replies ready w = record { text = w; tables = refl; ready = ready }
 
--- ---- refused or done
+-- starts that were lent to be changed come back in front of the others, those that were lent to be read stay
+module _ (l : List ℕ) (m : ℕ) (within : m ≤ length l) where
+  pub changed-back : (starts : List ℕ) → length starts ≡ length (take m l) → starts ++ drop m l ≡ over starts l
+  changed-back starts e = ap (λ (i : ℕ). starts ++ drop i l) (count-front m l within ∙ sym e)
 
-module _ {t : Tables} (ready : Ready t) (asked : Record) {b b′ : List ℕ} {n : ℕ} (parts : List Part) (wrote : Answers b b′ n (answer (outcome (lent t) asked .letter) parts)) where
-  pub replies-kept : (outcome (lent t) asked .refusal ≡ 0 → ⊥) → parts ≡ number (outcome (lent t) asked .refusal) ∷ [] → Replies t t asked b b′ n
-  replies-kept f e =
-      let o = outcome (lent t) asked in
-      record {
-        text = subst (λ (ps : List Part). Answers b b′ n (answer (o .letter) ps)) (e ∙ sym (spoken-alone (o .refusal) (o .fields) f)) wrote;
-        tables = sym (kept-same (o .refusal) t (into t (o .next)) f);
-        ready = ready;
-      }
+  pub read-back : l ≡ over (take m l) l
+  read-back = sym (put-back m l within)
 
-  module _ (u : Tables) where
-    pub replies-refused : (outcome (lent t) asked .refusal ≡ 0 → ⊥) → parts ≡ number (outcome (lent t) asked .refusal) ∷ [] → u ≡ lent t → Replies t (into t u) asked b b′ n
-    replies-refused f e g = subst (λ (v : Tables). Replies t v asked b b′ n) (sym (ap (into t) g ∙ kept-back ready)) (replies-kept f e)
+-- ---- a call on a town
 
-    pub replies-done : outcome (lent t) asked .refusal ≡ 0 → parts ≡ number 0 ∷ outcome (lent t) asked .fields → u ≡ outcome (lent t) asked .next → Ready (into t u) → Replies t (into t u) asked b b′ n
-    replies-done z e g r =
-        let o = outcome (lent t) asked in
-        record {
-          text = subst (λ (ps : List Part). Answers b b′ n (answer (o .letter) ps)) (e ∙ ap (λ (m : ℕ). spoken m (o .fields)) (sym z)) wrote;
-          tables = ap (into t) g ∙ ap (λ (m : ℕ). kept m t (into t (o .next))) (sym z);
-          ready = r;
-        }
+module _ {t : Tables} (ready : Ready t) {m : ℕ} (places : m ≡ placesOf (t .records .head)) where
+  pub lent-within : m ≤ length (t .derived .starts)
+  lent-within = omega (arith, places-within ready)
 
--- ---- what no refusal says of the tables
+  module _ {call : Call} {left : Result Values} {u : Tables} (town : asksTown call ≡ true) (kept : Keeps (both (withStarts t (take m (t .derived .starts))) u) (record { call = call; result = left })) where
+    abbrev e : Event
+    e = record { call = call; result = left }
 
-module _ {t : Tables} (ready : Ready t) where
-  sound-add : (z : ℕ) (r : Rect) → addBars (lent t) z r 0 ≡ 0 → Sound (lent t)
-  unfolding addBars
-  sound-add z r e = lent-sound ready (unless→ (sized (lent t)) 2 _ e .0)
+    keeps : Keeps (both (part t) u) e
+    keeps = subst (λ (i : ℕ). Keeps (both (withStarts t (take i (t .derived .starts))) u) e) places kept
 
-  sound-remove : (z : ℕ) → removeRefusal (lent t) z ≡ 0 → Sound (lent t)
-  unfolding removeRefusal
-  sound-remove z e = lent-sound ready (unless→ (sized (lent t)) 2 _ e .0)
+    sound : bars (part t) call ≡ 0 → Sound (part t)
+    sound z = part-sound ready (own-passes (townOf (part t)) (lengthsIn (part t)) call town z)
 
-  sound-report : (c : ℕ) (p : Position) (m k : ℕ) → reportRefusal (lent t) c p m k ≡ 0 → Sound (lent t)
-  unfolding reportRefusal
-  sound-report c p m k e = lent-sound ready (unless→ (sized (lent t)) 2 _ e .0)
+    told : (e ≡ outcomeOf t call) × (u ≡ step (change (outcomeOf t call)) (part t))
+    told =
+        let a = keeps-told true keeps (λ z. trusts-sound (means (part t) call .trusts) (sound z)) in
+        let same : e ≡ outcomeOf t call = a .0 ∙ own-alone (townOf (part t)) (lengthsIn (part t)) (roomOf t) call town refl in
+        (same, a .1 ∙ ap (λ (x : Event). step (change x) (part t)) same)
 
-  sound-leave : (c m : ℕ) → leaveRefusal (lent t) c m ≡ 0 → Sound (lent t)
-  unfolding leaveRefusal
-  sound-leave c m e = lent-sound ready (unless→ (sized (lent t)) 2 _ e .0)
+    pub call-few : Few call (left .answer)
+    call-few = subst (λ (x : Event). Few call (x .result .answer)) (sym (told .0)) (few ready call)
 
-  sound-search : (p : Position) (m : ℕ) → searchRefusal (lent t) p m ≡ 0 → Sound (lent t)
-  unfolding searchRefusal
-  sound-search p m e = lent-sound ready (unless→ (sized (lent t)) 2 _ e .0)
+    ready-then : u .records .head ≡ t .records .head → Ready (into t u)
+    ready-then same = by-refusal (bars (part t) call)
+        (λ z. ready-same ready u (next (part t) (sound z) u e keeps .sound) (sound z) same)
+        (λ f. subst Ready (sym (ap (into t) (keeps .refuses f .1) ∙ kept-back ready)) ready)
 
-  sound-list : (z m : ℕ) → listRefusal (lent t) z m ≡ 0 → Sound (lent t)
-  unfolding listRefusal
-  sound-list z m e = lent-sound ready (unless→ (sized (lent t)) 2 _ e .0)
+    pub call-replies : {letter : Letter} {starts b b′ : List ℕ} {n : ℕ} → u .records .head ≡ t .records .head → starts ≡ over (u .derived .starts) (t .derived .starts) → Answers b b′ n (textOf letter (left .answer) (left .buffers)) → Replies (both t (withStarts u starts)) (some (letter, call)) b b′ n
+    call-replies same back w = replies (told .0) (told .1) (ready-then same) back w
 
-  -- ---- the calls that change the tables
+-- ---- an open
 
-  module _ (z : ℕ) (r : Rect) (u : Tables) (a : Added) (p : Adds (lent t) u z r a) where
-    pub added-few : (addedSquares a ≤ 2048) × (addedCars a ≤ 64)
-    added-few = by-refusal (addRefusal (lent t) z r)
-        (λ e.
-        let s = sound-add z r (bars-none (lent t) z r e) in
-        let d = p .done e s .0 in
-        (omega (arith, ap addedSquares d, leb-true (length (used (lent t)) + length (cut (shapeOf t) r)) (entryRoom t) (add-room (lent t) z r e), entries-2048 ready s), few-kept _ _ _ _ (ap addedCars d) (cars-64 ready s)))
-        (λ f. let d = p .refused f (sound-add z r) .0 in (omega (arith, ap addedSquares d), omega (arith, ap addedCars d)))
+module _ {t : Tables} (ready : Ready t) (k P Q : ℕ) where
+  abbrev o : Opening
+  o = asked k P Q 16 64 2048
 
-    pub add-replies : {b b′ : List ℕ} {n : ℕ} → Answers b b′ n (answer 65 (addedParts a)) → Replies t (into t u) (Add z (r .a) (r .b) (r .w) (r .h)) b b′ n
-    add-replies w = by-refusal (addRefusal (lent t) z r)
-        (λ e.
-        let s = sound-add z r (bars-none (lent t) z r e) in
-        let d = p .done e s in
-        replies-done ready (Add z (r .a) (r .b) (r .w) (r .h)) (addedParts a) w u e (ap addedParts (d .0)) (d .1) (ready-same ready u (next (lent t) u s (added z r a) p .sound) s (ap (λ (v : Tables). v .head) (d .1))))
-        (λ f. let d = p .refused f (sound-add z r) in replies-refused ready (Add z (r .a) (r .b) (r .w) (r .h)) (addedParts a) w u f (ap addedParts (d .0)) (d .1))
+  -- what it leaves, by the number that refuses it
+  abbrev opens : ℕ → Event
+  opens n = record { call = opening o; result = result n [] (numbers []) }
 
-  pub remove-replies : (z : ℕ) (u : Tables) (a : Removed) → Removes (lent t) u z a → {b b′ : List ℕ} {n : ℕ} → Answers b b′ n (answer 68 (removedParts a)) → Replies t (into t u) (Remove z) b b′ n
-  remove-replies z u a p w = by-refusal (removeRefusal (lent t) z)
-      (λ e.
-      let s = sound-remove z e in
-      replies-done ready (Remove z) (removedParts a) w u e (ap removedParts (p .accepted e)) (p .done e s) (ready-same ready u (next (lent t) u s (removed z a) p .sound) s (ap (λ (v : Tables). v .head) (p .done e s))))
-      (λ f. replies-refused ready (Remove z) (removedParts a) w u f (ap removedParts (p .refused f .0)) (p .refused f .1))
+  opens-so : (n : ℕ) → n ≡ refusal (roomOf t) (townOf (part t)) (opening o) → opens n ≡ outcomeOf t (opening o)
+  unfolding meaning
+  opens-so n q = ap opens q
 
-  module _ (c x y : ℕ) (u : Tables) (e e′ l l′ : List ℕ) (a : Reported) (long : length e ≡ 16) (other : length l ≡ 16) (p : Reports (lent t) u c (positionOf x y) e e′ l l′ a) where
-    asked-16 : reportRefusal (lent t) c (positionOf x y) (length e) (length l) ≡ reportRefusal (lent t) c (positionOf x y) 16 16
-    asked-16 = rw (long, other)
+  -- 1 for a shape beyond the bounds, 3 for one beyond the room
+  pub beyond-1 : allowed (shape k P Q) ≡ false → 1 ≡ refusal (roomOf t) (townOf (part t)) (opening o)
+  unfolding meaning
+  beyond-1 e = stops 0 (meaning (roomOf t) (townOf (part t)) (opening o) .checks) e
 
-    pub reported-few : (reportedCame a ≤ 16) × (reportedGone a ≤ 16)
-    reported-few = by-refusal (reportRefusal (lent t) c (positionOf x y) (length e) (length l))
-        (λ o.
-        let s = sound-report c (positionOf x y) (length e) (length l) o in
-        let d = p .done o s .0 in
-        (few-kept _ _ _ _ (ap reportedCame d) (zones-16 ready s), few-kept _ _ _ _ (ap reportedGone d) (zones-16 ready s)))
-        (λ f. let d = p .refused f .0 in (omega (arith, ap reportedCame d), omega (arith, ap reportedGone d)))
+  pub beyond-3 : allowed (shape k P Q) ≡ true → (leb (width (shape k P Q)) 64 && leb (height (shape k P Q)) 64) ≡ false → 3 ≡ refusal (roomOf t) (townOf (part t)) (opening o)
+  unfolding meaning
+  beyond-3 a e = stops 2 (meaning (roomOf t) (townOf (part t)) (opening o) .checks) (a, (refl, e))
 
-    pub report-replies : {b b′ : List ℕ} {n : ℕ} → Answers b b′ n (answer 80 (reportedParts a e′ l′)) → Replies t (into t u) (Report c x y) b b′ n
-    report-replies w = by-refusal (reportRefusal (lent t) c (positionOf x y) (length e) (length l))
-        (λ o.
-        let s = sound-report c (positionOf x y) (length e) (length l) o in
-        let d = p .done o s in
-        replies-done ready (Report c x y) (reportedParts a e′ l′) w u (sym asked-16 ∙ o) (rw (d .0, d .1 .1 .0, d .1 .1 .1, take-over, take-over)) (d .1 .0) (ready-same ready u (next (lent t) u s (reported c (positionOf x y) e e′ l l′ a) p .sound) s (ap (λ (v : Tables). v .head) (d .1 .0))))
-        (λ f. let d = p .refused f in replies-refused ready (Report c x y) (reportedParts a e′ l′) w u (λ (o : reportRefusal (lent t) c (positionOf x y) 16 16 ≡ 0). f (asked-16 ∙ o)) (rw (d .0, asked-16)) (d .1 .0))
+  pub open-refused : (n : ℕ) {b b′ : List ℕ} {r : ℕ} → suc n ≡ refusal (roomOf t) (townOf (part t)) (opening o) → Answers b b′ r (textOf Letter.M (refuse (suc n)) []) → Replies (both t t) (callOf (Open k P Q)) b b′ r
+  open-refused n q w =
+      let so = opens-so (suc n) q in
+      replies so (ap (λ (x : Event). step (change x) (part t)) so) (subst Ready (sym (kept-back ready)) ready) (read-back (t .derived .starts) (placesOf (t .records .head)) (places-within ready)) w
 
-  module _ (c : ℕ) (u : Tables) (e e′ : List ℕ) (a : Departed) (long : length e ≡ 16) (p : Leaves (lent t) u c e e′ a) where
-    left-16 : leaveRefusal (lent t) c (length e) ≡ leaveRefusal (lent t) c 16
-    left-16 = rw long
+  -- within the bounds and the room
+  module _ (shaped : allowed (shape k P Q) ≡ true) (wide : width (shape k P Q) ≤ 64) (high : height (shape k P Q) ≤ 64) {m : ℕ} (many : m ≡ squares (shape k P Q)) where
+    few-squares : squares (shape k P Q) + 1 ≤ 5462
+    few-squares = squares-64 (shape k P Q) (allowed→ (shape k P Q) shaped) wide high
 
-    pub departed-few : departedGone a ≤ 16
-    departed-few = by-refusal (leaveRefusal (lent t) c (length e))
-        (λ o. let s = sound-leave c (length e) o in few-kept _ _ _ _ (ap departedGone (p .done o s .0)) (zones-16 ready s))
-        (λ f. omega (arith, ap departedGone (p .refused f .0)))
+    pub open-within : m + 1 ≤ length (t .derived .starts)
+    open-within = omega (arith, few-squares, ready .starts)
 
-    pub leave-replies : {b b′ : List ℕ} {n : ℕ} → Answers b b′ n (answer 76 (departedParts a e′)) → Replies t (into t u) (Leave c) b b′ n
-    leave-replies w = by-refusal (leaveRefusal (lent t) c (length e))
-        (λ o.
-        let s = sound-leave c (length e) o in
-        let d = p .done o s in
-        replies-done ready (Leave c) (departedParts a e′) w u (sym left-16 ∙ o) (rw (d .0, d .1 .1, take-over)) (d .1 .0) (ready-same ready u (next (lent t) u s (departed c e e′ a) p .sound) s (ap (λ (v : Tables). v .head) (d .1 .0))))
-        (λ f. let d = p .refused f in replies-refused ready (Leave c) (departedParts a e′) w u (λ (o : leaveRefusal (lent t) c 16 ≡ 0). f (left-16 ∙ o)) (rw (d .0, left-16)) (d .1 .0))
-
-  -- ---- the calls that read
-
-  -- what is done changes nothing
-  replies-read : (asked : Record) {b b′ : List ℕ} {n : ℕ} (parts : List Part) → Answers b b′ n (answer (outcome (lent t) asked .letter) parts) → outcome (lent t) asked .refusal ≡ 0 → parts ≡ number 0 ∷ outcome (lent t) asked .fields → outcome (lent t) asked .next ≡ lent t → Replies t t asked b b′ n
-  replies-read asked {b} {b′} {n} parts w o e g =
-      let back = kept-back ready in
-      subst (λ (v : Tables). Replies t v asked b b′ n) back (replies-done ready asked parts w (lent t) o e (sym g) (subst Ready (sym back) ready))
-
-  module _ (x y : ℕ) (e e′ : List ℕ) (a : Searched) (long : length e ≡ 16) (p : Searches (lent t) (positionOf x y) e e′ a) where
-    found-16 : searchRefusal (lent t) (positionOf x y) (length e) ≡ searchRefusal (lent t) (positionOf x y) 16
-    found-16 = rw long
-
-    pub searched-few : searchedCount a ≤ 16
-    searched-few = by-refusal (searchRefusal (lent t) (positionOf x y) (length e))
-        (λ o. let s = sound-search (positionOf x y) (length e) o in few-kept _ _ _ _ (ap searchedCount (p .done o s .0)) (zones-16 ready s))
-        (λ f. omega (arith, ap searchedCount (p .refused f .0)))
-
-    pub search-replies : {b b′ : List ℕ} {n : ℕ} → Answers b b′ n (answer 83 (searchedParts a e′)) → Replies t t (Search x y) b b′ n
-    search-replies w = by-refusal (searchRefusal (lent t) (positionOf x y) (length e))
-        (λ o. let d = p .done o (sound-search (positionOf x y) (length e) o) in replies-read (Search x y) (searchedParts a e′) w (sym found-16 ∙ o) (rw (d .0, d .1, take-over)) refl)
-        (λ f. replies-kept ready (Search x y) (searchedParts a e′) w (λ (o : searchRefusal (lent t) (positionOf x y) 16 ≡ 0). f (found-16 ∙ o)) (rw (p .refused f .0, found-16)))
-
-  module _ (z : ℕ) (e e′ : List ℕ) (a : Listed) (long : length e ≡ 64) (p : Lists (lent t) z e e′ a) where
-    listed-64 : listRefusal (lent t) z (length e) ≡ listRefusal (lent t) z 64
-    listed-64 = rw long
-
-    pub listed-few : listedCount a ≤ 64
-    listed-few = by-refusal (listRefusal (lent t) z (length e))
-        (λ o. let s = sound-list z (length e) o in few-kept _ _ _ _ (ap listedCount (p .done o s .0)) (cars-64 ready s))
-        (λ f. omega (arith, ap listedCount (p .refused f .0)))
-
-    pub list-replies : {b b′ : List ℕ} {n : ℕ} → Answers b b′ n (answer 82 (listedParts a e′)) → Replies t t (Roster z) b b′ n
-    list-replies w = by-refusal (listRefusal (lent t) z (length e))
-        (λ o. let d = p .done o (sound-list z (length e) o) in replies-read (Roster z) (listedParts a e′) w (sym listed-64 ∙ o) (rw (d .0, d .1, take-over)) refl)
-        (λ f. replies-kept ready (Roster z) (listedParts a e′) w (λ (o : listRefusal (lent t) z 64 ≡ 0). f (listed-64 ∙ o)) (rw (p .refused f .0, listed-64)))
-
-  -- ---- an open, and a line that is no record
-
-  module _ (s : Shape) {b b′ : List ℕ} {n : ℕ} where
-    pub open-beyond : allowed s ≡ false → Answers b b′ n (answer 77 (number 1 ∷ [])) → Replies t t (Open (s .k) (s .P) (s .Q)) b b′ n
-    unfolding openBars
-    open-beyond e w =
-        let bars : openBars s ≡ 1 = rw e in
-        replies-kept ready (Open (s .k) (s .P) (s .Q)) (number 1 ∷ []) w (λ (o : openBars s ≡ 0). omega arith) (rw bars)
-
-    pub open-wide : allowed s ≡ true → 64 < width s → Answers b b′ n (answer 77 (number 3 ∷ [])) → Replies t t (Open (s .k) (s .P) (s .Q)) b b′ n
-    unfolding openBars
-    open-wide e h w =
-        let bars : openBars s ≡ 3 = rw (e, lt-leb (width s) 64 h) in
-        replies-kept ready (Open (s .k) (s .P) (s .Q)) (number 3 ∷ []) w (λ (o : openBars s ≡ 0). omega arith) (rw bars)
-
-    pub open-high : allowed s ≡ true → width s ≤ 64 → 64 < height s → Answers b b′ n (answer 77 (number 3 ∷ [])) → Replies t t (Open (s .k) (s .P) (s .Q)) b b′ n
-    unfolding openBars
-    open-high e g h w =
-        let bars : openBars s ≡ 3 = rw (e, le-leb (width s) 64 g, lt-leb (height s) 64 h) in
-        replies-kept ready (Open (s .k) (s .P) (s .Q)) (number 3 ∷ []) w (λ (o : openBars s ≡ 0). omega arith) (rw bars)
-
-  module _ (s : Shape) (shape : Allowed s) (wide : width s ≤ 64) (high : height s ≤ 64) where
-    roomy-16 : Roomy 16 64 2048
-    roomy-16 = record { zones-some = lit< tt; zones-few = lit≤ tt; cars-some = lit< tt; cars-few = lit≤ tt; entries-some = lit< tt; entries-few = lit≤ tt }
-
-    -- the tables lent to an open are as long as it asks
     abbrev offered : Tables
-    offered = tables (t .head) (t .zones) (t .cars) (t .spots) (take (squares s + 1) (t .starts)) (t .entries) (t .rosters)
+    offered = withStarts t (take (m + 1) (t .derived .starts))
 
-    offered-long : Long s 16 64 2048 offered
-    offered-long = record { head = ready .head; zones = ready .zones; cars = ready .cars; spots = ready .spots; starts = length-take-le (squares s + 1) (t .starts) (omega (arith, squares-64 s shape wide high, ready .starts)); entries = ready .entries; rosters = ready .rosters }
+    offered-long : Long (shape k P Q) 16 64 2048 offered
+    offered-long = record {
+      head = ready .head;
+      zones = ready .zones;
+      cars = ready .cars;
+      spots = ready .spots;
+      starts = length-take-le (m + 1) (t .derived .starts) open-within ∙ ap (λ (i : ℕ). i + 1) many;
+      entries = ready .entries;
+      rosters = ready .rosters;
+    }
 
-    taken : openRefusal s 16 64 2048 offered ≡ 0
-    taken = open-0 s 16 64 2048 offered (→allowed s shape) (→roomy 16 64 2048 roomy-16) (→long s 16 64 2048 offered offered-long)
+    open-passes : 0 ≡ bars offered (opening o)
+    unfolding meaning
+    open-passes = stops 3 (means offered (opening o) .checks) (shaped, (refl, (→long (shape k P Q) 16 64 2048 offered offered-long, tt)))
 
-    pub open-replies : (u : Tables) (a : Opened) {b b′ : List ℕ} {n : ℕ} → Opens s 16 64 2048 offered u a → Answers b b′ n (answer 77 (openedParts a)) → Replies t (into t u) (Open (s .k) (s .P) (s .Q)) b b′ n
-    unfolding openBars
-    open-replies u a p w =
-        let bars : openBars s ≡ 0 = rw (→allowed s shape, le-leb (width s) 64 wide, le-leb (height s) 64 high) in
-        let d = p .done taken in
-        let r : Ready (into t (emptyTown s 16 64 2048)) = ready-into ready (emptyTown s 16 64 2048) (empty-sound s 16 64 2048 shape roomy-16) refl refl refl (squares-64 s shape wide high) in
-        replies-done ready (Open (s .k) (s .P) (s .Q)) (openedParts a) w u bars (ap openedParts (d .0)) (d .1) (rw (d .1) r)
+    open-done : opens 0 ≡ outcomeOf t (opening o)
+    unfolding meaning
+    open-done = opens-so 0 (stops 3 (meaning (roomOf t) (townOf (part t)) (opening o) .checks) (shaped, (refl, (rw (le-leb (width (shape k P Q)) 64 wide, le-leb (height (shape k P Q)) 64 high), tt))))
 
-  pub bad-replies : {b b′ : List ℕ} {n : ℕ} → Answers b b′ n (answer 63 (number 14 ∷ [])) → Replies t t Bad b b′ n
-  bad-replies w = replies-kept ready Bad (number 14 ∷ []) w (λ e. omega arith) refl
+    pub open-replies : {u : Tables} {left : Result Values} {starts b b′ : List ℕ} {n : ℕ} → Keeps (both offered u) (record { call = opening o; result = left }) → starts ≡ over (u .derived .starts) (t .derived .starts) → Answers b b′ n (textOf Letter.M (left .answer) (left .buffers)) → Replies (both t (withStarts u starts)) (callOf (Open k P Q)) b b′ n
+    unfolding meaning
+    open-replies {u} {left} kept back w =
+        let d = kept .does (sym open-passes) true tt in
+        let so : _≡_ {A = Event} (record { call = opening o; result = left }) (opens 0) = d .0 ∙ ap opens (sym open-passes) in
+        let is : u ≡ emptyTown o = d .1 ∙ ap (λ (x : Event). step (change x) offered) so in
+        let empty : Ready (into t (emptyTown o)) = ready-into ready (emptyTown o) (empty-sound o (allowed→ (shape k P Q) shaped) (roomy→ 16 64 2048 refl)) refl refl refl few-squares in
+        replies (so ∙ open-done) (is ∙ ap (λ (x : Event). step (change x) (part t)) open-done) (subst (λ (v : Tables). Ready (into t v)) (sym is) empty) back w

@@ -7,28 +7,32 @@ use lib.ListN.{length, take}
 use Rattle.order.specs.Order.{over}
 use Rattle.squares.specs.Shape.{allowed}
 use Rattle.squares.specs.Squares.{squares}
-use Rattle.tables.specs.Tables.{Tables, tables, shapeIn, shapeOf}
+use Rattle.tables.specs.Tables.{Tables, shapeIn, shapeOf}
 use Rattle.tables.specs.Sound.{Sound}
 
 -- how many of the starts the town in head needs: none where no town is open
 unfoldable pub placesOf : List ℕ → ℕ
 placesOf head = cond (allowed (shapeIn head)) (squares (shapeIn head) + 1) 0
 
--- the tables as they are lent: of the starts, as many as the town needs
-abbrev pub lent : Tables → Tables
-lent t = tables (t .head) (t .zones) (t .cars) (t .spots) (take (placesOf (t .head)) (t .starts)) (t .entries) (t .rosters)
+-- tables with other starts
+abbrev pub withStarts : Tables → List ℕ → Tables
+withStarts t starts = record { records = t .records; derived = record { starts = starts; entries = t .derived .entries; rosters = t .derived .rosters } }
 
--- a town's tables in the program's: starts that the town does not need stay as they are
+-- the part that is lent to a call: of the starts, as many as the town needs
+abbrev pub part : Tables → Tables
+part t = withStarts t (take (placesOf (t .records .head)) (t .derived .starts))
+
+-- a town's tables put back into the program's: starts that the town does not need stay as they are
 abbrev pub into : Tables → Tables → Tables
-into t u = tables (u .head) (u .zones) (u .cars) (u .spots) (over (u .starts) (t .starts)) (u .entries) (u .rosters)
+into t u = withStarts u (over (u .derived .starts) (t .derived .starts))
 
 -- the tables have their lengths, and a town that is open is sound
 pub record Ready (t : Tables) : Type 0 where
-  pub head : length (t .head) ≡ 6
-  pub zones : length (t .zones) ≡ 64
-  pub cars : length (t .cars) ≡ 64
-  pub spots : length (t .spots) ≡ 128
-  pub starts : length (t .starts) ≡ 5462
-  pub entries : length (t .entries) ≡ 2048
-  pub rosters : length (t .rosters) ≡ 1024
-  pub sound : allowed (shapeOf t) ≡ true → Sound (lent t)
+  pub head : length (t .records .head) ≡ 6
+  pub zones : length (t .records .zones) ≡ 64
+  pub cars : length (t .records .cars) ≡ 64
+  pub spots : length (t .records .spots) ≡ 128
+  pub starts : length (t .derived .starts) ≡ 5462
+  pub entries : length (t .derived .entries) ≡ 2048
+  pub rosters : length (t .derived .rosters) ≡ 1024
+  pub sound : allowed (shapeOf t) ≡ true → Sound (part t)

@@ -13,14 +13,15 @@ use Rattle.order.specs.Order.{over}
 use Rattle.order.specs.TestLaws.{true-or-false}
 use Rattle.order.specs.BufferLaws.{length-over}
 use Rattle.squares.specs.declared.shape.Shape.{Shape}
-use Rattle.squares.specs.Shape.{Allowed, allowed, width, height}
+use Rattle.squares.specs.Shape.{allowed, width, height}
+use Rattle.squares.specs.Bounds.{Allowed}
 use Rattle.squares.specs.Squares.{squares}
 use Rattle.squares.specs.ShapeLaws.{area, →allowed}
-use Rattle.tables.specs.Tables.{Tables, tables, shapeIn, shapeOf, zoneRoom, carRoom, entryRoom}
+use Rattle.tables.specs.Tables.{Tables, shapeIn, shapeOf, zoneRoom, carRoom, entryRoom}
 use Rattle.tables.specs.Check.{sized}
 use Rattle.tables.specs.Sound.{Sound}
-use Rattle.tables.specs.CheckLaws.{sized→}
-use Rattle.replay.specs.Room.{placesOf, lent, into, Ready}
+use Rattle.tables.specs.CheckLaws.{sized→, size-of}
+use Rattle.replay.specs.Room.{placesOf, withStarts, part, into, Ready}
 
 -- a town of at most 64 by 64 has room
 pub squares-64 : (s : Shape) → Allowed s → width s ≤ 64 → height s ≤ 64 → squares s + 1 ≤ 5462
@@ -46,48 +47,48 @@ put-back n l h = rw (length-take-le n l h) (take-append-drop n l)
 module _ {t : Tables} (ready : Ready t) where
   -- ---- a town that is open
 
-  pub lent-sound : sized (lent t) ≡ true → Sound (lent t)
-  lent-sound e = ready .sound (→allowed (shapeOf t) (sized→ (lent t) e .shape))
+  pub part-sound : sized (part t) ≡ true → Sound (part t)
+  part-sound e = ready .sound (→allowed (shapeOf t) (sized→ (part t) e .shape))
 
-  module _ (sound : Sound (lent t)) where
-    pub zones-16 : zoneRoom t ≡ 16
-    zones-16 = omega (arith, sound .size .lengths .zones, ready .zones)
+  module _ (sound : Sound (part t)) where
+    zones-16 : zoneRoom t ≡ 16
+    zones-16 = omega (arith, size-of sound .lengths .zones, ready .zones)
 
     pub cars-64 : carRoom t ≡ 64
-    cars-64 = sym (sound .size .lengths .cars) ∙ ready .cars
+    cars-64 = sym (size-of sound .lengths .cars) ∙ ready .cars
 
     pub entries-2048 : entryRoom t ≡ 2048
-    entries-2048 = sym (sound .size .lengths .entries) ∙ ready .entries
+    entries-2048 = sym (size-of sound .lengths .entries) ∙ ready .entries
 
-    pub starts-room : squares (shapeOf t) + 1 ≤ 5462
-    starts-room = omega (arith, sound .size .lengths .starts, length-take (placesOf (t .head)) (t .starts), ready .starts)
+    starts-room : squares (shapeOf t) + 1 ≤ 5462
+    starts-room = omega (arith, size-of sound .lengths .starts, length-take (placesOf (t .records .head)) (t .derived .starts), ready .starts)
 
-  pub places-within : placesOf (t .head) ≤ length (t .starts)
+  pub places-within : placesOf (t .records .head) ≤ length (t .derived .starts)
   places-within = ⊎-elim
-      (λ (e : allowed (shapeOf t) ≡ true). omega (arith, places-some (t .head) e, starts-room (ready .sound e), ready .starts))
-      (λ (e : allowed (shapeOf t) ≡ false). omega (arith, places-none (t .head) e))
+      (λ (e : allowed (shapeOf t) ≡ true). omega (arith, places-some (t .records .head) e, starts-room (ready .sound e), ready .starts))
+      (λ (e : allowed (shapeOf t) ≡ false). omega (arith, places-none (t .records .head) e))
       (true-or-false (allowed (shapeOf t)))
 
-  pub kept-back : into t (lent t) ≡ t
-  kept-back = ap (λ (l : List ℕ). tables (t .head) (t .zones) (t .cars) (t .spots) l (t .entries) (t .rosters)) (put-back (placesOf (t .head)) (t .starts) places-within)
+  pub kept-back : into t (part t) ≡ t
+  kept-back = ap (withStarts t) (put-back (placesOf (t .records .head)) (t .derived .starts) places-within)
 
   -- ---- tables that stay ready
 
   module _ (u : Tables) (sound : Sound u) where
     pub ready-into : zoneRoom u ≡ 16 → carRoom u ≡ 64 → entryRoom u ≡ 2048 → squares (shapeOf u) + 1 ≤ 5462 → Ready (into t u)
     ready-into z c e s =
-        let l = sound .size .lengths in
-        let places : placesOf (u .head) ≡ length (u .starts) = places-some (u .head) (→allowed (shapeOf u) (sound .size .shape)) ∙ sym (l .starts) in
+        let l = size-of sound .lengths in
+        let places : placesOf (u .records .head) ≡ length (u .derived .starts) = places-some (u .records .head) (→allowed (shapeOf u) (size-of sound .shape)) ∙ sym (l .starts) in
         record {
           head = l .head;
           zones = l .zones ∙ ap (λ (n : ℕ). 4 * n) z;
           cars = l .cars ∙ c;
           spots = l .spots ∙ ap (λ (n : ℕ). 2 * n) c;
-          starts = length-over (u .starts) (t .starts) (omega (arith, l .starts, ready .starts)) ∙ ready .starts;
+          starts = length-over (u .derived .starts) (t .derived .starts) (omega (arith, l .starts, ready .starts)) ∙ ready .starts;
           entries = l .entries ∙ e;
           rosters = l .rosters ∙ rw (z, c);
-          sound = λ _. rw (take-at (u .starts) _ (placesOf (u .head)) (sym places)) sound;
+          sound = λ _. rw (take-at (u .derived .starts) _ (placesOf (u .records .head)) (sym places)) sound;
         }
 
-    pub ready-same : Sound (lent t) → u .head ≡ t .head → Ready (into t u)
+    pub ready-same : Sound (part t) → u .records .head ≡ t .records .head → Ready (into t u)
     ready-same h e = ready-into (rw e (zones-16 h)) (rw e (cars-64 h)) (rw e (entries-2048 h)) (rw e (starts-room h))

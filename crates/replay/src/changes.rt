@@ -1,17 +1,18 @@
 // The records that change the tables: M, A, D, P and L.
 use crate::room::places_in;
 use crate::room::position_of;
-use line::write_number;
+use model::Opened;
 use squares::Rect;
 use squares::Shape;
-use wording::tell_added;
-use wording::tell_departed;
-use wording::tell_opened;
-use wording::tell_removed;
-use wording::tell_reported;
-ghost use Rattle.tables.specs.Tables.{tables};
+use squares::Shaped;
+use texts::write_added;
+use texts::write_left;
+use texts::write_opened;
+use texts::write_removed;
+use texts::write_reported;
+ghost use Rattle.tables.specs.Lent.{lent, given};
 ghost use Rattle.replay.specs.Room.{Ready};
-ghost use Rattle.replay.specs.Replies.{Replies};
+ghost use Rattle.replay.specs.Replies.{callOf, Replies};
 ghost use Rattle.line.specs.declared.records.Record.the-variants.{Open, Add, Remove, Report, Leave};
 
 // M: a town of at most 64 by 64, with 16 zones, 64 cars and 2,048 entries.
@@ -23,23 +24,25 @@ pub fn open_record(
     starts: &mut [u32],
     entries: &mut [u32],
     rosters: &mut [u8],
-    s: Shape,
+    k: u32,
+    P: u32,
+    Q: u32,
     out: &mut [u8],
 ) -> usize
-    requires { ⌜ Ready (tables (now head) (now zones) (now cars) (now spots) (now starts) (now entries) (now rosters)) ⌝ }
-    ensures { λ n. ⌜ Replies (tables (now (head .entry)) (now (zones .entry)) (now (cars .entry)) (now (spots .entry)) (now (starts .entry)) (now (entries .entry)) (now (rosters .entry))) (tables (now (head .exit)) (now (zones .exit)) (now (cars .exit)) (now (spots .exit)) (now (starts .exit)) (now (entries .exit)) (now (rosters .exit))) (Open (s .k) (s .P) (s .Q)) (now (out .entry)) (now (out .exit)) n ⌝ }
+    requires { ⌜ Ready (given head zones cars spots starts entries rosters) ⌝ }
+    ensures { λ n. ⌜ Replies (lent head zones cars spots starts entries rosters) (callOf (Open k P Q)) (now (out .entry)) (now (out .exit)) n ⌝ }
 {
-    if !s.allowed() {
-        return write_number(out, b'M', 1);
-    }
+    let Shaped::Allowed(s) = Shape::new(k, P, Q) else {
+        return write_opened(Opened::Refused(1), out);
+    };
     if 64 < s.width() {
-        return write_number(out, b'M', 3);
+        return write_opened(Opened::Refused(3), out);
     }
     if 64 < s.height() {
-        return write_number(out, b'M', 3);
+        return write_opened(Opened::Refused(3), out);
     }
     let many = s.squares() as usize + 1;
-    let answer = town::open_town(
+    let answer = zones::open_town(
         head,
         zones,
         cars,
@@ -47,12 +50,14 @@ pub fn open_record(
         &mut starts[..many],
         entries,
         rosters,
-        s,
+        k,
+        P,
+        Q,
         16,
         64,
         2048,
     );
-    tell_opened(answer, out)
+    write_opened(answer, out)
 }
 
 // A: a zone added.
@@ -68,11 +73,11 @@ pub fn add_record(
     r: Rect,
     out: &mut [u8],
 ) -> usize
-    requires { ⌜ Ready (tables (now head) (now zones) (now cars) (now spots) (now starts) (now entries) (now rosters)) ⌝ }
-    ensures { λ n. ⌜ Replies (tables (now (head .entry)) (now (zones .entry)) (now (cars .entry)) (now (spots .entry)) (now (starts .entry)) (now (entries .entry)) (now (rosters .entry))) (tables (now (head .entry)) (now (zones .exit)) (now (cars .entry)) (now (spots .entry)) (now (starts .exit)) (now (entries .exit)) (now (rosters .exit))) (Add zone (r .a) (r .b) (r .w) (r .h)) (now (out .entry)) (now (out .exit)) n ⌝ }
+    requires { ⌜ Ready (given head zones cars spots starts entries rosters) ⌝ }
+    ensures { λ n. ⌜ Replies (lent head zones cars spots starts entries rosters) (callOf (Add zone (r .a) (r .b) (r .w) (r .h))) (now (out .entry)) (now (out .exit)) n ⌝ }
 {
     let many = places_in(head);
-    let answer = town::add_zone(
+    let answer = zones::add_zone(
         head,
         zones,
         cars,
@@ -83,7 +88,7 @@ pub fn add_record(
         zone,
         r,
     );
-    tell_added(answer, out)
+    write_added(answer, out)
 }
 
 // D: a zone taken away.
@@ -98,11 +103,11 @@ pub fn remove_record(
     zone: u32,
     out: &mut [u8],
 ) -> usize
-    requires { ⌜ Ready (tables (now head) (now zones) (now cars) (now spots) (now starts) (now entries) (now rosters)) ⌝ }
-    ensures { λ n. ⌜ Replies (tables (now (head .entry)) (now (zones .entry)) (now (cars .entry)) (now (spots .entry)) (now (starts .entry)) (now (entries .entry)) (now (rosters .entry))) (tables (now (head .entry)) (now (zones .exit)) (now (cars .entry)) (now (spots .entry)) (now (starts .exit)) (now (entries .exit)) (now (rosters .exit))) (Remove zone) (now (out .entry)) (now (out .exit)) n ⌝ }
+    requires { ⌜ Ready (given head zones cars spots starts entries rosters) ⌝ }
+    ensures { λ n. ⌜ Replies (lent head zones cars spots starts entries rosters) (callOf (Remove zone)) (now (out .entry)) (now (out .exit)) n ⌝ }
 {
     let many = places_in(head);
-    let answer = town::remove_zone(
+    let answer = zones::remove_zone(
         head,
         zones,
         cars,
@@ -112,7 +117,7 @@ pub fn remove_record(
         rosters,
         zone,
     );
-    tell_removed(answer, out)
+    write_removed(answer, out)
 }
 
 // P: a car placed or moved.
@@ -129,13 +134,13 @@ pub fn report_record(
     y: u32,
     out: &mut [u8],
 ) -> usize
-    requires { ⌜ Ready (tables (now head) (now zones) (now cars) (now spots) (now starts) (now entries) (now rosters)) ⌝ }
-    ensures { λ n. ⌜ Replies (tables (now (head .entry)) (now (zones .entry)) (now (cars .entry)) (now (spots .entry)) (now (starts .entry)) (now (entries .entry)) (now (rosters .entry))) (tables (now (head .entry)) (now (zones .entry)) (now (cars .exit)) (now (spots .exit)) (now (starts .entry)) (now (entries .entry)) (now (rosters .exit))) (Report car x y) (now (out .entry)) (now (out .exit)) n ⌝ }
+    requires { ⌜ Ready (given head zones cars spots starts entries rosters) ⌝ }
+    ensures { λ n. ⌜ Replies (lent head zones cars spots starts entries rosters) (callOf (Report car x y)) (now (out .entry)) (now (out .exit)) n ⌝ }
 {
     let many = places_in(head);
     let mut entered = [0u32; 16];
     let mut left = [0u32; 16];
-    let answer = town::report_car(
+    let answer = cars::report_car(
         head,
         zones,
         cars,
@@ -148,7 +153,7 @@ pub fn report_record(
         &mut entered,
         &mut left,
     );
-    tell_reported(answer, &entered, &left, out)
+    write_reported(answer, &entered, &left, out)
 }
 
 // L: a car taken off the map.
@@ -163,12 +168,12 @@ pub fn leave_record(
     car: u32,
     out: &mut [u8],
 ) -> usize
-    requires { ⌜ Ready (tables (now head) (now zones) (now cars) (now spots) (now starts) (now entries) (now rosters)) ⌝ }
-    ensures { λ n. ⌜ Replies (tables (now (head .entry)) (now (zones .entry)) (now (cars .entry)) (now (spots .entry)) (now (starts .entry)) (now (entries .entry)) (now (rosters .entry))) (tables (now (head .entry)) (now (zones .entry)) (now (cars .exit)) (now (spots .entry)) (now (starts .entry)) (now (entries .entry)) (now (rosters .exit))) (Leave car) (now (out .entry)) (now (out .exit)) n ⌝ }
+    requires { ⌜ Ready (given head zones cars spots starts entries rosters) ⌝ }
+    ensures { λ n. ⌜ Replies (lent head zones cars spots starts entries rosters) (callOf (Leave car)) (now (out .entry)) (now (out .exit)) n ⌝ }
 {
     let many = places_in(head);
     let mut left = [0u32; 16];
-    let answer = town::leave_town(
+    let answer = cars::leave_map(
         head,
         zones,
         cars,
@@ -179,5 +184,5 @@ pub fn leave_record(
         car,
         &mut left,
     );
-    tell_departed(answer, &left, out)
+    write_left(answer, &left, out)
 }

@@ -1,11 +1,11 @@
 // The records that only read the tables: S and R.
 use crate::room::places_in;
 use crate::room::position_of;
-use wording::tell_listed;
-use wording::tell_searched;
-ghost use Rattle.tables.specs.Tables.{tables};
+use texts::write_roster;
+use texts::write_searched;
+ghost use Rattle.tables.specs.Lent.{lent, given};
 ghost use Rattle.replay.specs.Room.{Ready};
-ghost use Rattle.replay.specs.Replies.{Replies};
+ghost use Rattle.replay.specs.Replies.{callOf, Replies};
 ghost use Rattle.line.specs.declared.records.Record.the-variants.{Search, Roster};
 
 // S: the zones that hold a position.
@@ -21,12 +21,12 @@ pub fn search_record(
     y: u32,
     out: &mut [u8],
 ) -> usize
-    requires { ⌜ Ready (tables (now head) (now zones) (now cars) (now spots) (now starts) (now entries) (now rosters)) ⌝ }
-    ensures { λ n. ⌜ Replies (tables (now (head .entry)) (now (zones .entry)) (now (cars .entry)) (now (spots .entry)) (now (starts .entry)) (now (entries .entry)) (now (rosters .entry))) (tables (now (head .entry)) (now (zones .entry)) (now (cars .entry)) (now (spots .entry)) (now (starts .entry)) (now (entries .entry)) (now (rosters .entry))) (Search x y) (now (out .entry)) (now (out .exit)) n ⌝ }
+    requires { ⌜ Ready (given head zones cars spots starts entries rosters) ⌝ }
+    ensures { λ n. ⌜ Replies (lent head zones cars spots starts entries rosters) (callOf (Search x y)) (now (out .entry)) (now (out .exit)) n ⌝ }
 {
     let many = places_in(head);
     let mut found = [0u32; 16];
-    let answer = town::search_zones(
+    let answer = readings::search_zones(
         head,
         zones,
         cars,
@@ -37,7 +37,7 @@ pub fn search_record(
         position_of(x, y),
         &mut found,
     );
-    tell_searched(answer, &found, out)
+    write_searched(answer, &found, out)
 }
 
 // R: the cars of a zone.
@@ -52,12 +52,12 @@ pub fn roster_record(
     zone: u32,
     out: &mut [u8],
 ) -> usize
-    requires { ⌜ Ready (tables (now head) (now zones) (now cars) (now spots) (now starts) (now entries) (now rosters)) ⌝ }
-    ensures { λ n. ⌜ Replies (tables (now (head .entry)) (now (zones .entry)) (now (cars .entry)) (now (spots .entry)) (now (starts .entry)) (now (entries .entry)) (now (rosters .entry))) (tables (now (head .entry)) (now (zones .entry)) (now (cars .entry)) (now (spots .entry)) (now (starts .entry)) (now (entries .entry)) (now (rosters .entry))) (Roster zone) (now (out .entry)) (now (out .exit)) n ⌝ }
+    requires { ⌜ Ready (given head zones cars spots starts entries rosters) ⌝ }
+    ensures { λ n. ⌜ Replies (lent head zones cars spots starts entries rosters) (callOf (Roster zone)) (now (out .entry)) (now (out .exit)) n ⌝ }
 {
     let many = places_in(head);
     let mut inside = [0u32; 64];
-    let answer = town::list_roster(
+    let answer = readings::roster_of_zone(
         head,
         zones,
         cars,
@@ -68,5 +68,5 @@ pub fn roster_record(
         zone,
         &mut inside,
     );
-    tell_listed(answer, &inside, out)
+    write_roster(answer, &inside, out)
 }

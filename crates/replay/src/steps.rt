@@ -8,10 +8,9 @@ use crate::looks::roster_record;
 use crate::looks::search_record;
 use line::Record;
 use squares::Rect;
-use squares::Shape;
-ghost use Rattle.tables.specs.Tables.{tables};
+ghost use Rattle.tables.specs.Lent.{lent, given};
 ghost use Rattle.replay.specs.Room.{Ready};
-ghost use Rattle.replay.specs.Replies.{Replies};
+ghost use Rattle.replay.specs.Replies.{callOf, Replies};
 ghost use Rattle.line.specs.Grammar.{meaning};
 
 // Does what a line says, and writes its answer to the front of the buffer. Answers how long it is.
@@ -26,14 +25,25 @@ pub fn step(
     line: &[u8],
     out: &mut [u8],
 ) -> usize
-    requires { ⌜ Ready (tables (now head) (now zones) (now cars) (now spots) (now starts) (now entries) (now rosters)) ⌝ }
-    ensures { λ n. ⌜ Replies (tables (now (head .entry)) (now (zones .entry)) (now (cars .entry)) (now (spots .entry)) (now (starts .entry)) (now (entries .entry)) (now (rosters .entry))) (tables (now (head .exit)) (now (zones .exit)) (now (cars .exit)) (now (spots .exit)) (now (starts .exit)) (now (entries .exit)) (now (rosters .exit))) (meaning (now (line .entry))) (now (out .entry)) (now (out .exit)) n ⌝ }
+    requires { ⌜ Ready (given head zones cars spots starts entries rosters) ⌝ }
+    ensures { λ n. ⌜ Replies (lent head zones cars spots starts entries rosters) (callOf (meaning (now (line .entry)))) (now (out .entry)) (now (out .exit)) n ⌝ }
 {
     match line::parse(line) {
         Record::Bad => line::write_number(out, b'?', 14),
         Record::Open(k, P, Q) => {
-            let s = Shape { k, P, Q };
-            open_record(head, zones, cars, spots, starts, entries, rosters, s, out)
+            open_record(
+                head,
+                zones,
+                cars,
+                spots,
+                starts,
+                entries,
+                rosters,
+                k,
+                P,
+                Q,
+                out,
+            )
         }
         Record::Add(zone, a, b, w, h) => {
             let r = Rect { a, b, w, h };

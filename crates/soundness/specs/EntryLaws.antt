@@ -1,34 +1,28 @@
--- What the functions over one entry, one zone and one car go by.
+-- An entry's key: down the levels to the square at its place, and whether the square is in the cut of its zone's rectangle.
 use Prim.Native.Nat.{ℕ, zero, suc, _+_, _-_, _*_, _/_, _%_, _^_, _<_, _≤_}
 use mathlib.Core.Path.{_≡_, refl, ap, sym, _∙_}
-use mathlib.Core.Bool.{Bool, true, false, cond, not}
+use mathlib.Core.Bool.{true, false, not}
 use mathlib.Core.List.{List}
 use native.Mathlib.Omega.{arith}
 use native.Mathlib.Numerals.{add-one}
 use native.Mathlib.Nat.{mul-one, mul-left-comm, pow-succ', le-trans}
-use lib.Dec.{eqb}
-use lib.Ieee.{Float}
-use lib.ListN.{getD}
+use lib.ListN.{length}
 use borrow.Author.Tests.{lt-ltb, le-ltb}
-use Rattle.order.specs.Sums.{sum, bit}
-use Rattle.order.specs.TestLaws.{true-not-false}
 use Rattle.squares.specs.declared.shape.Shape.{Shape}
 use Rattle.squares.specs.declared.shape.Rect.{Rect}
-use Rattle.squares.specs.declared.numbers.Square.{Square}
-use Rattle.squares.specs.Shape.{Allowed, fits}
+use Rattle.squares.specs.declared.shape.Square.{Square}
 use Rattle.squares.specs.Squares.{squares, squaresOn, squareOf}
-use Rattle.squares.specs.Cut.{holds, within, inside, inCut}
-use Rattle.squares.specs.Leaves.{Near, Counted}
-use Rattle.squares.specs.ShapeLaws.{blocks-small, squares-small, →allowed}
+use Rattle.squares.specs.Cut.{within, inside, inCut}
+use Rattle.squares.specs.Leaves.{Near}
+use Rattle.squares.specs.ShapeLaws.{blocks-small, squares-small}
 use Rattle.squares.specs.SquareLaws.{corner-x-fits, corner-y-fits}
-use Rattle.position.specs.declared.Spot.{Spot}
-use Rattle.position.specs.Answer.{onTown, spotOn}
-use Rattle.position.specs.Laws.{off-town, on-town}
-use Rattle.soundness.specs.declared.entry.Leveled.{Leveled}
-use Rattle.tables.specs.Tables.{rectIn, spotIn}
+use Rattle.tables.specs.Tables.{rectIn}
 use Rattle.tables.specs.Derived.{before, levelAt, numberAt}
 use Rattle.tables.specs.PlaceLaws.{before-more, before-none, before-all, level-place, number-place}
-use Rattle.soundness.specs.Tests.{zoneStands, zoneFits, carFits, keyRight, cutSize, has, byteRight, InTown, At, Both, SizeOf, Riding}
+use Rattle.tables.specs.CountLaws.{past-zones}
+use Rattle.soundness.specs.declared.entry.Leveled.{Leveled}
+use Rattle.soundness.specs.Tests.{keyRight, InTown, At, Both}
+use Rattle.soundness.specs.ZoneLaws.{zone-down, zone-up}
 
 -- ---- down the levels to a place
 
@@ -106,120 +100,24 @@ module _ (s : Shape) (r : Rect) where
   cut-lower zero n f e = absurd (f refl)
   cut-lower (suc i) n f e = let q : suc i - 1 ≡ i = omega arith in rw (e, q)
 
--- ---- a zone
-
-module _ (zones : List ℕ) (z : ℕ) (r : Rect) (e : r ≡ rectIn zones z) where
-  pub zone-down : r .w ≡ 0 → zoneStands zones z ≡ false
-  unfolding zoneStands
-  zone-down f = le-ltb 0 (rectIn zones z .w) (omega (arith, sym (ap (λ (q : Rect). q .w) e) ∙ f))
-
-  pub zone-up : (r .w ≡ 0 → ⊥) → zoneStands zones z ≡ true
-  unfolding zoneStands
-  zone-up f = lt-ltb 0 (rectIn zones z .w) (let g : 0 < r .w = omega arith in rw e at g)
-
-module _ (s : Shape) (zones : List ℕ) (z : ℕ) where
-  pub fits-down : zoneStands zones z ≡ false → zoneFits s zones z ≡ true
-  unfolding zoneFits
-  fits-down e = go (zoneStands zones z) e
-    where
-      go : (b : Bool) → b ≡ false → cond b (fits s (rectIn zones z)) true ≡ true
-      go b f = rw f
-
-  pub fits-up : zoneStands zones z ≡ true → zoneFits s zones z ≡ fits s (rectIn zones z)
-  unfolding zoneFits
-  fits-up e = go (zoneStands zones z) e
-    where
-      go : (b : Bool) → b ≡ true → cond b (fits s (rectIn zones z)) true ≡ fits s (rectIn zones z)
-      go b f = rw f
-
-  pub size-down : zoneStands zones z ≡ false → SizeOf s zones z 0
-  unfolding cutSize
-  size-down e = record { is = rw e; few = omega arith }
-
-  pub size-up : zoneStands zones z ≡ true → (n : ℕ) → Counted s (rectIn zones z) n → SizeOf s zones z n
-  unfolding cutSize
-  size-up e n h = record { is = rw e (h .is); few = h .few }
-
 -- ---- a key
 
 module _ (s : Shape) (zones : List ℕ) (key : ℕ) where
-  pub key-past : squares s ≤ key / 256 → keyRight s zones key ≡ false
+  pub key-past : squares s ≤ key / 256 → false ≡ keyRight s zones key
   unfolding keyRight
   key-past h = rw (le-ltb (key / 256) (squares s) h)
 
-  pub key-down : key / 256 < squares s → zoneStands zones (key % 256) ≡ false → keyRight s zones key ≡ false
-  unfolding keyRight
-  key-down h e = rw (lt-ltb (key / 256) (squares s) h, e)
+  module _ (h : key / 256 < squares s) where
+    pub key-none : (Z : ℕ) → length zones ≡ 4 * Z → Z ≤ key % 256 → false ≡ keyRight s zones key
+    unfolding keyRight
+    key-none Z l g = rw (lt-ltb (key / 256) (squares s) h, past-zones zones Z l (key % 256) g)
 
-  pub key-up : key / 256 < squares s → zoneStands zones (key % 256) ≡ true → keyRight s zones key ≡ inCut s (rectIn zones (key % 256)) (levelAt s (key / 256)) (numberAt s (key / 256))
-  unfolding keyRight
-  key-up h e = rw (lt-ltb (key / 256) (squares s) h, e)
+    module _ (r : Rect) (e : r ≡ rectIn zones (key % 256)) where
+      pub key-down : r .w ≡ 0 → false ≡ keyRight s zones key
+      unfolding keyRight
+      key-down f = rw (lt-ltb (key / 256) (squares s) h, zone-down zones (key % 256) r e f)
 
--- ---- the cuts added up
-
-pub record Summed (s : Shape) (zones : List ℕ) (Z n z : ℕ) : Type 0 where
-  pub low : z ≤ Z
-  pub is : n ≡ sum (cutSize s zones) z
-  pub few : n ≤ z * 87381
-
-module _ (s : Shape) (zones : List ℕ) (Z : ℕ) where
-  pub summed-none : Summed s zones Z 0 0
-  unfolding sum
-  summed-none = record { low = omega arith; is = refl; few = omega arith }
-
-  pub summed-more : (n z m : ℕ) → Summed s zones Z n z → z < Z → SizeOf s zones z m → Summed s zones Z (n + m) (z + 1)
-  unfolding sum
-  summed-more n z m h g e = record { low = omega arith; is = rw (add-one z, h .is, e .is); few = omega (arith, h .few, e .few) }
-
-  pub summed-end : (n z : ℕ) → Summed s zones Z n z → Z ≤ z → n ≡ sum (cutSize s zones) Z
-  summed-end n z h g = let e : z ≡ Z = omega (arith, h .low) in h .is ∙ ap (sum (cutSize s zones)) e
-
--- ---- a car
-
-module _ (s : Shape) (cars : List ℕ) (spots : List Float) (c : ℕ) where
-  pub car-away : getD cars c 0 ≡ 0 → true ≡ carFits s cars spots c
-  unfolding carFits
-  car-away e = rw (le-ltb 0 (getD cars c 0) (omega arith))
-
-  pub car-off : Allowed s → (getD cars c 0 ≡ 0 → ⊥) → spotOn s (spotIn spots c) ≡ Spot.Off → false ≡ carFits s cars spots c
-  unfolding carFits
-  car-off h f e = rw (lt-ltb 0 (getD cars c 0) (omega arith), off-town s (spotIn spots c) (→allowed s h) e)
-
-  pub car-on : Allowed s → (getD cars c 0 ≡ 0 → ⊥) → (x y : ℕ) → spotOn s (spotIn spots c) ≡ Spot.Cell x y → true ≡ carFits s cars spots c
-  unfolding carFits
-  car-on h f x y e = rw (lt-ltb 0 (getD cars c 0) (omega arith), on-town s (spotIn spots c) x y (→allowed s h) e .0)
-
--- ---- a byte of the rosters
-
-module _ (s : Shape) (zones cars : List ℕ) (spots : List Float) (z c : ℕ) where
-  pub has-away : getD cars c 0 ≡ 0 → false ≡ has s zones cars spots z c
-  unfolding has
-  has-away e = rw (le-ltb 0 (getD cars c 0) (omega arith))
-
-  pub has-down : (getD cars c 0 ≡ 0 → ⊥) → zoneStands zones z ≡ false → false ≡ has s zones cars spots z c
-  unfolding has
-  has-down f e = rw (lt-ltb 0 (getD cars c 0) (omega arith), e)
-
-  -- a placed car is not off the map
-  pub has-off : (C : ℕ) → Riding s cars spots C → (getD cars c 0 ≡ 0 → ⊥) → spotOn s (spotIn spots c) ≡ Spot.Off → false ≡ has s zones cars spots z c
-  has-off C h f e = absurd (true-not-false (onTown s (spotIn spots c)) (h .fit c (lt-ltb 0 (getD cars c 0) (omega arith))) (off-town s (spotIn spots c) (→allowed s (h .parked .shape)) e))
-
-  pub has-on : (C : ℕ) → Riding s cars spots C → (getD cars c 0 ≡ 0 → ⊥) → zoneStands zones z ≡ true → (r : Rect) → r ≡ rectIn zones z → (x y : ℕ) → spotOn s (spotIn spots c) ≡ Spot.Cell x y → holds r x y ≡ has s zones cars spots z c
-  unfolding has
-  has-on C h f e r g x y q =
-      let a = on-town s (spotIn spots c) x y (→allowed s (h .parked .shape)) q in
-      rw (lt-ltb 0 (getD cars c 0) (omega arith), e, g, a .1, a .2)
-
-pub bit-yes : (n : ℕ) (b : Bool) → b ≡ true → eqb n 1 ≡ eqb n (bit b)
-bit-yes n b e = rw e
-
-pub bit-no : (n : ℕ) (b : Bool) → b ≡ false → eqb n 0 ≡ eqb n (bit b)
-bit-no n b e = rw e
-
-pub byte-is : (s : Shape) (zones cars : List ℕ) (spots : List Float) (rosters : List ℕ) (C i : ℕ) (b : Bool) → b ≡ has s zones cars spots (i / C) (i % C) → eqb (getD rosters i 0) (bit b) ≡ byteRight s zones cars spots rosters C i
-unfolding byteRight
-byte-is s zones cars spots rosters C i b e = rw e
-
--- the test of a key by the square at its place
-pub key-cut : (s : Shape) (zones : List ℕ) (key : ℕ) → key / 256 < squares s → zoneStands zones (key % 256) ≡ true → (r : Rect) → r ≡ rectIn zones (key % 256) → (q : Leveled) → At s (key / 256) q → inCut s r (q .level) (q .number) ≡ keyRight s zones key
-key-cut s zones key h e r f q g = rw (f, g .level, g .number) (sym (key-up s zones key h e))
+      -- the test by the square at the key's place
+      pub key-cut : (r .w ≡ 0 → ⊥) → (q : Leveled) → At s (key / 256) q → inCut s r (q .level) (q .number) ≡ keyRight s zones key
+      unfolding keyRight
+      key-cut f q g = rw (lt-ltb (key / 256) (squares s) h, zone-up zones (key % 256) r e f, e, g .level, g .number)

@@ -1,7 +1,9 @@
+-- The tests of soundness, then their laws.
 pub mod Tests
 pub mod EveryLaws
-pub mod CountLaws
 pub mod StartLaws
+pub mod ZoneLaws
+pub mod CarLaws
 pub mod EntryLaws
-pub mod JudgeLaws
-pub mod SoundLaws
+pub mod SoundnessLaws
+pub mod SweepLaws

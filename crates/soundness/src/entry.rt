@@ -6,13 +6,6 @@ ghost use mathlib.Core.Path.{_≡_};
 ghost use Rattle.squares.specs.Cut.{inside, inCut};
 ghost use Rattle.soundness.specs.Tests.{InTown, At, Both, Fitting, keyRight};
 
-// A number of the tables as an index.
-pub fn wide(x: u32) -> usize
-    ensures { λ r. ⌜ r ≡ x ⌝ }
-{
-    x as usize
-}
-
 // A square by its level and its number there.
 pub struct Leveled {
     pub level: u32,

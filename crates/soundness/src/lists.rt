@@ -1,6 +1,7 @@
 // The lists of the squares: whether the entries in use are the right ones, and whether each list starts where it should.
 use crate::entry::key_right;
-use crate::entry::wide;
+use order::ends_below;
+use order::wide;
 use squares::Shape;
 use squares::cut_count;
 use tables::rect_in;
@@ -8,7 +9,7 @@ ghost use Prim.Native.Nat.{_-_, _<_, _≤_};
 ghost use mathlib.Core.Path.{_≡_};
 ghost use lib.ListN.{length};
 ghost use Rattle.order.specs.Sums.{sum};
-ghost use Rattle.soundness.specs.Tests.{every, rightAt, risesAt, freeAt, cutSize, endsBelow, startsAbove, parts, startRight, entriesRight, Fitting, SizeOf};
+ghost use Rattle.soundness.specs.Tests.{every, rightAt, risesAt, freeAt, sizeAt, startsAbove, parts, startRight, entriesRight, Fitting, SizeOf};
 
 // Whether the first u entries rise.
 fn rises(entries: &[u32], u: usize) -> bool
@@ -55,6 +56,7 @@ fn frees(entries: &[u32]) -> bool
     true
 }
 
+// How many entries a zone has: the squares of its cut, if it stands.
 fn cut_size(s: Shape, zones: &[u32], Z: usize, z: usize) -> usize
     requires { ⌜ Fitting s (now zones) Z ⌝ }
     requires { ⌜ z < Z ⌝ }
@@ -67,10 +69,10 @@ fn cut_size(s: Shape, zones: &[u32], Z: usize, z: usize) -> usize
     cut_count(s, r)
 }
 
-// How many squares the standing zones' cuts have.
+// How many entries all zones have.
 fn cut_sizes(s: Shape, zones: &[u32], Z: usize) -> usize
     requires { ⌜ Fitting s (now zones) Z ⌝ }
-    ensures { λ r. ⌜ r ≡ sum (cutSize s (now (zones .entry))) Z ⌝ }
+    ensures { λ r. ⌜ r ≡ sum (sizeAt s (now (zones .entry))) Z ⌝ }
 {
     let mut n = 0;
     let mut z = 0;
@@ -102,17 +104,6 @@ pub fn entries_right(s: Shape, Z: usize, zones: &[u32], entries: &[u32], u: usiz
 }
 
 // ---- starts
-
-// Whether the last of the first n entries is below a key.
-pub fn ends_below(entries: &[u32], key: usize, n: usize) -> bool
-    requires { ⌜ n ≤ length (now entries) ⌝ }
-    ensures { λ r. ⌜ r ≡ endsBelow (now (entries .entry)) key n ⌝ }
-{
-    if n == 0 {
-        return true;
-    }
-    wide(entries[n - 1]) < key
-}
 
 // Whether the entry after the first n of u is not below a key.
 fn starts_above(entries: &[u32], u: usize, key: usize, n: usize) -> bool

@@ -1,7 +1,7 @@
 // Soundness: the zones, the cars and the rosters, and all together.
-use crate::entry::wide;
 use crate::lists::entries_right;
 use crate::lists::starts_right;
+use order::wide;
 use position::Spot;
 use position::locate;
 use squares::Shape;
@@ -15,12 +15,14 @@ ghost use mathlib.Core.Path.{_≡_};
 ghost use lib.Dec.{eqb};
 ghost use lib.ListN.{length};
 ghost use Rattle.order.specs.Sums.{bit};
-ghost use Rattle.tables.specs.Tables.{tables};
-ghost use Rattle.tables.specs.Check.{Sized};
-ghost use Rattle.soundness.specs.Tests.{every, zoneFits, carFits, has, byteRight, sound, Zoned, Fitting, Parked, Riding};
+ghost use Rattle.tables.specs.Lent.{lent, given};
+ghost use Rattle.tables.specs.Sizes.{Sized};
+ghost use Rattle.tables.specs.Asks.{Parked};
+ghost use Rattle.soundness.specs.Tests.{every, zoneFits, carFits, has, byteRight, sound, Zoned, Fitting, Riding};
 
 // ---- zones and cars
 
+// Whether a zone's rectangle fits, if it stands.
 fn zone_fits(s: Shape, zones: &[u32], Z: usize, z: usize) -> bool
     requires { ⌜ Zoned s (now zones) Z ⌝ }
     requires { ⌜ z < Z ⌝ }
@@ -33,7 +35,7 @@ fn zone_fits(s: Shape, zones: &[u32], Z: usize, z: usize) -> bool
     s.fits(r)
 }
 
-// Whether every standing zone's rectangle fits.
+// Whether every zone that stands fits.
 fn zones_fit(s: Shape, zones: &[u32], Z: usize) -> bool
     requires { ⌜ Zoned s (now zones) Z ⌝ }
     ensures { λ r. ⌜ r ≡ every (zoneFits s (now (zones .entry))) Z ⌝ }
@@ -48,6 +50,7 @@ fn zones_fit(s: Shape, zones: &[u32], Z: usize) -> bool
     true
 }
 
+// Whether a car's position is on the map, if it is placed.
 fn car_fits(s: Shape, cars: &[u32], spots: &[f32], C: usize, c: usize) -> bool
     requires { ⌜ Parked s (now cars) (now spots) C ⌝ }
     requires { ⌜ c < C ⌝ }
@@ -154,8 +157,8 @@ pub fn sound(
     entries: &[u32],
     rosters: &[u8],
 ) -> bool
-    requires { ⌜ Sized (tables (now head) (now zones) (now cars) (now spots) (now starts) (now entries) (now rosters)) ⌝ }
-    ensures { λ r. ⌜ r ≡ sound (tables (now (head .entry)) (now (zones .entry)) (now (cars .entry)) (now (spots .entry)) (now (starts .entry)) (now (entries .entry)) (now (rosters .entry))) ⌝ }
+    requires { ⌜ Sized (given head zones cars spots starts entries rosters) ⌝ }
+    ensures { λ r. ⌜ r ≡ sound (lent head zones cars spots starts entries rosters .entry) ⌝ }
 {
     let s = shape_in(head);
     let Z = wide(zone_room(head));

@@ -14,7 +14,8 @@ use Rattle.order.specs.TestLaws.{both-ways, true-not-false}
 use Rattle.order.specs.SumLaws.{sum-ext, sum-plus, sum-times, sum-grid, count-sum, count-between}
 use Rattle.squares.specs.declared.shape.Shape.{Shape}
 use Rattle.squares.specs.declared.shape.Rect.{Rect}
-use Rattle.squares.specs.Shape.{Fits, side}
+use Rattle.squares.specs.Shape.{side}
+use Rattle.squares.specs.Bounds.{Fits}
 use Rattle.squares.specs.Squares.{sideOn, squaresOn, cornerX, cornerY}
 use Rattle.squares.specs.Cut.{inside, inCut, cutOn, cutTo}
 use Rattle.squares.specs.Count.{wholes, insideOn, insideAbove}

@@ -15,7 +15,8 @@ use Rattle.order.specs.TestLaws.{lt-or-le, lt-or-eq-or-gt, true-or-false, true-
 use Rattle.order.specs.KeepLaws.{span→, →span, keep→, →keep, length-keep, length-span}
 use Rattle.squares.specs.declared.shape.Shape.{Shape}
 use Rattle.squares.specs.declared.shape.Rect.{Rect}
-use Rattle.squares.specs.Shape.{Allowed, width, height}
+use Rattle.squares.specs.Shape.{width, height}
+use Rattle.squares.specs.Bounds.{Allowed}
 use Rattle.squares.specs.Squares.{sideOn, squaresOn, squares, number, cornerX, cornerY}
 use Rattle.squares.specs.Cut.{holds, inside, inCut, code, cutOn, cutTo, cut}
 use Rattle.squares.specs.SquareLaws.{squaresTo, count-squares, corner-number-x, corner-number-y, number-corner, number-parent, in-square, corner-x-fits, corner-y-fits}

@@ -6,7 +6,8 @@ use lib.ListN.{length}
 use Rattle.order.specs.Buffer.{Wrote}
 use Rattle.squares.specs.declared.shape.Shape.{Shape}
 use Rattle.squares.specs.declared.shape.Rect.{Rect}
-use Rattle.squares.specs.Shape.{Allowed, width, height, Fits}
+use Rattle.squares.specs.Shape.{largestK, largestSide, width, height}
+use Rattle.squares.specs.Bounds.{Allowed, Fits}
 use Rattle.squares.specs.Cut.{code, cutOn, cut}
 use Rattle.squares.specs.Descent.{descent, inRow}
 
@@ -19,9 +20,9 @@ pub record Below (n bound r : ℕ) : Type 0 where
   pub is : r ≡ n
   pub below : r < bound
 
--- numbers of i bits, of which no more than five are interleaved
+-- numbers of i bits, for a level i
 pub record Bits (i a b : ℕ) : Type 0 where
-  pub few : i ≤ 5
+  pub few : i ≤ largestK
   pub across : a < 2 ^ i
   pub up : b < 2 ^ i
 
@@ -42,10 +43,10 @@ pub record StepsApart (k a b d : ℕ) : Type 0 where
 
 -- sums of a rectangle's and a square's coordinates are small
 pub record Near (r : Rect) (x y d : ℕ) : Type 0 where
-  pub east : r .a + r .w ≤ 256
-  pub north : r .b + r .h ≤ 256
-  pub right : x + d ≤ 256
-  pub over : y + d ≤ 256
+  pub east : r .a + r .w ≤ largestSide
+  pub north : r .b + r .h ≤ largestSide
+  pub right : x + d ≤ largestSide
+  pub over : y + d ≤ largestSide
 
 -- what a descent of m levels from square n asks
 pub record Room (r : Rect) (m x y d n base at : ℕ) : Type 0 where
@@ -90,8 +91,8 @@ pub record AllStores (s : Shape) (r : Rect) (b b′ : List ℕ) (t : ℕ) : Type
 
 -- a stretch on the map, taken in steps of 2 ^ j
 pub record Stretch (a w j : ℕ) : Type 0 where
-  pub short : a + w ≤ 256
-  pub step : j ≤ 5
+  pub short : a + w ≤ largestSide
+  pub step : j ≤ largestK
 
 -- how many squares a cut has
 pub record Counted (s : Shape) (r : Rect) (t : ℕ) : Type 0 where

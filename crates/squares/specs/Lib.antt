@@ -1,10 +1,14 @@
+-- Definitions, then what the functions below the calls promise, then laws.
 pub mod Shape
 pub mod Squares
 pub mod Cut
+pub mod Refusals
 pub mod Promises
+pub mod Bounds
 pub mod Leaves
 pub mod Descent
 pub mod Count
+pub mod RefusalLaws
 pub mod PowerLaws
 pub mod ShapeLaws
 pub mod SquareLaws

@@ -10,7 +10,7 @@ use Rattle.order.specs.Buffer.{Wrote}
 use Rattle.order.specs.BufferLaws.{wrote-none, wrote-more}
 use Rattle.squares.specs.declared.shape.Shape.{Shape}
 use Rattle.squares.specs.declared.shape.Rect.{Rect}
-use Rattle.squares.specs.Shape.{side}
+use Rattle.squares.specs.Shape.{largestSide, side}
 use Rattle.squares.specs.Cut.{code, cutTo}
 use Rattle.squares.specs.Descent.{descent, inRow, inRows}
 use Rattle.squares.specs.Leaves.{Positive, Room, Descends, RowRoom, RowStores, LevelRoom, LevelStores, AllRoom, AllStores}
@@ -30,7 +30,7 @@ module _ {s : Shape} {r : Rect} {i row at d : ℕ} (room : RowRoom s r i row at)
   wide : r .a + r .w ≤ s .P * d
   wide = rw (p .is) (room .rect .wide)
 
-  pub row-short : (r .a + r .w - 1) / d + 1 ≤ 256
+  pub row-short : (r .a + r .w - 1) / d + 1 ≤ largestSide
   row-short = le-trans (end-in (r .a) (r .w) (s .P) d (p .some) (room .rect .columns) wide) (columns-small s (room .shape))
 
   pub row-begins : (b : List ℕ) → RowTurn s r i row b b at at (r .a / d)
@@ -49,8 +49,8 @@ module _ {s : Shape} {r : Rect} {i row at d : ℕ} (room : RowRoom s r i row at)
       let n = row * s .P + column in
       let below : suc n ≤ s .P * s .Q = omega (arith, digits-lt (room .north) inTown, mul-comm (s .P) (s .Q)) in
       let all : suc n * 4 ^ i ≤ 65536 = le-trans (mul-le-mul-right (4 ^ i) below) (squares-small s (room .shape) i (room .level)) in
-      let columns : s .P * d ≤ 256 = rw (p .is) (room .shape .wide) in
-      let rows : s .Q * d ≤ 256 = rw (p .is) (room .shape .high) in
+      let columns : s .P * d ≤ largestSide = rw (p .is) (room .shape .wide) in
+      let rows : s .Q * d ≤ largestSide = rw (p .is) (room .shape .high) in
       record {
         near = record {
           east = le-trans (room .rect .wide) (room .shape .wide);
@@ -90,7 +90,7 @@ module _ {s : Shape} {r : Rect} {i at d : ℕ} (room : LevelRoom s r i at) (p : 
   high : r .b + r .h ≤ s .Q * d
   high = rw (p .is) (room .rect .high)
 
-  pub level-short : (r .b + r .h - 1) / d + 1 ≤ 256
+  pub level-short : (r .b + r .h - 1) / d + 1 ≤ largestSide
   level-short = le-trans (end-in (r .b) (r .h) (s .Q) d (p .some) (room .rect .rows) high) (rows-small s (room .shape))
 
   pub level-begins : (b : List ℕ) → LevelTurn s r i b b at at (r .b / d)

@@ -8,7 +8,8 @@ use lib.Arith.{digits-lt}
 use lib.Dec.{lit<}
 use mir.Syntax.{w32}
 use mir.Val.{Fits}
-use lib.Pow.{pow-mono, shl-exact}
+use lib.Pow.{shl-exact}
+use Rattle.squares.specs.Shape.{largestK}
 use Rattle.squares.specs.Squares.{evens}
 use Rattle.squares.specs.Leaves.{Below}
 
@@ -22,9 +23,6 @@ two-two (suc i) = let e : 2 * suc i ≡ suc (suc (2 * i)) = omega arith in rw (e
 -- a one shifted
 pub shifted : (j : ℕ) → j ≤ 12 → (1 * 2 ^ j) % 2 ^ 32 ≡ 2 ^ j
 shifted j h = shl-exact {a = 1} 1 j 32 (lit< tt) (omega arith) ∙ one-mul (2 ^ j)
-
-pub two-small : (j m : ℕ) → j ≤ m → 2 ^ j ≤ 2 ^ m
-two-small j m h = pow-mono h
 
 pub four-small : (i m : ℕ) → i ≤ m → 4 ^ i ≤ 4 ^ m
 four-small i m h = pow-le-pow-right (lit< tt) h
@@ -54,7 +52,7 @@ module _ (base i whole : ℕ) where
       let q : j ≡ i = omega (arith, h .turns) in
       record { is = sym (h .sum ∙ rw (e, mul-zero place) (add-zero r)); below = rw (← q, ← h .power) (h .low) }
 
-  pub digits-room : (rest r place j : ℕ) → base ≤ 4 → i ≤ 5 → Digits base i whole rest r place j → place ≤ 1024
+  pub digits-room : (rest r place j : ℕ) → base ≤ 4 → i ≤ largestK → Digits base i whole rest r place j → place ≤ 1024
   digits-room rest r place j g l h = rw (h .power) (le-trans (pow-le-pow-left g j) (four-small j 5 (le-trans (h .turns) l)))
 
 pub evens-turn : (i j n : ℕ) → j < i → evens (i - j) n ≡ 2 * evens (i - (j + 1)) (n / 4) + n % 2

@@ -1,68 +1,54 @@
--- What the calls without tables promise.
-use Prim.Native.Nat.{ℕ, zero, suc}
-use mathlib.Core.Path.{_≡_}
-use mathlib.Core.Bool.{Bool, true, false}
-use mathlib.Core.List.{List, [], _∷_, map}
+-- What the calls without tables promise. For each: what it asks in order, document 01's number and values of each answer, and the one result that it gives.
+use Prim.Native.Nat.{ℕ}
+use mathlib.Core.List.{List, [], _∷_}
 use lib.Dec.{leb}
 use lib.ListN.{length}
-use Rattle.order.specs.Order.{over}
 use Rattle.squares.specs.declared.shape.Shape.{Shape}
 use Rattle.squares.specs.declared.shape.Rect.{Rect}
-use Rattle.squares.specs.declared.numbers.Numbered.{Numbered}
-use Rattle.squares.specs.declared.numbers.Located.{Located}
-use Rattle.squares.specs.declared.cut.Cut.{Cut}
+use Rattle.squares.specs.declared.numbers.NumberOf.{NumberOf}
+use Rattle.squares.specs.declared.numbers.SquareOf.{SquareOf}
+use Rattle.squares.specs.declared.cut.CutOf.{CutOf}
 use Rattle.squares.specs.Shape.{allowed, fits}
-use Rattle.squares.specs.Squares.{isCorner, isNumber, number, squareOf, sideOn, cornerX, cornerY}
+use Rattle.squares.specs.Squares.{isCorner, isNumber, number, sideOn, cornerX, cornerY}
 use Rattle.squares.specs.Cut.{cut}
+use Rattle.squares.specs.Refusals.{Bar, first, Answer, refuse, accept, Result, result}
 
--- n where the test fails, else what comes after it
-abbrev pub unless : Bool → ℕ → ℕ → ℕ
-unless true n rest = rest
-unless false n rest = n
-
--- an answer's fields: the refusal number with every other field 0, or 0 and the values
-abbrev pub told : ℕ → List ℕ → List ℕ
-told zero values = 0 ∷ values
-told (suc n) values = suc n ∷ map (λ (v : ℕ). 0) values
+-- buffers at exit and an answer, as a result
+abbrev pub makes : {A : Type 0} → List (List ℕ) → Answer A → Result A
+makes buffers answer = record { buffers = buffers; answer = answer }
 
 -- ---- number of a square
 
-unfoldable pub numberRefusal : Shape → ℕ → ℕ → ℕ → ℕ
-numberRefusal s i x y = unless (allowed s) 1 (unless (isCorner s i x y) 13 0)
+abbrev pub numberChecks : Shape → ℕ → ℕ → ℕ → List Bar
+numberChecks s i x y = (allowed s, 1) ∷ (isCorner s i x y, 13) ∷ []
 
-abbrev pub numberedSays : Numbered → List ℕ
-numberedSays (Numbered.Refused n) = n ∷ 0 ∷ []
-numberedSays (Numbered.Number n) = 0 ∷ n ∷ []
+abbrev pub numberIs : NumberOf → Answer (List ℕ)
+numberIs (NumberOf.Refused n) = refuse n
+numberIs (NumberOf.Number n) = accept (n ∷ [])
 
-pub record Numbers (s : Shape) (i x y : ℕ) (answer : Numbered) : Type 0 where
-  pub refused : (numberRefusal s i x y ≡ 0 → ⊥) → answer ≡ Numbered.Refused (numberRefusal s i x y)
-  pub done : numberRefusal s i x y ≡ 0 → answer ≡ Numbered.Number (number s i x y)
-  pub says : numberedSays answer ≡ told (numberRefusal s i x y) (number s i x y ∷ [])
+unfoldable pub numberGives : Shape → ℕ → ℕ → ℕ → Result (List ℕ)
+numberGives s i x y = result (first (numberChecks s i x y)) [] (number s i x y ∷ [])
 
 -- ---- square of a number
 
-unfoldable pub locateRefusal : Shape → ℕ → ℕ → ℕ
-locateRefusal s i n = unless (allowed s) 1 (unless (isNumber s i n) 13 0)
+abbrev pub squareChecks : Shape → ℕ → ℕ → List Bar
+squareChecks s i n = (allowed s, 1) ∷ (isNumber s i n, 13) ∷ []
 
-abbrev pub locatedSays : Located → List ℕ
-locatedSays (Located.Refused n) = n ∷ 0 ∷ 0 ∷ 0 ∷ []
-locatedSays (Located.At q) = 0 ∷ q .x ∷ q .y ∷ q .side ∷ []
+abbrev pub squareIs : SquareOf → Answer (List ℕ)
+squareIs (SquareOf.Refused n) = refuse n
+squareIs (SquareOf.Square q) = accept (q .x ∷ q .y ∷ q .side ∷ [])
 
-pub record Locates (s : Shape) (i n : ℕ) (answer : Located) : Type 0 where
-  pub refused : (locateRefusal s i n ≡ 0 → ⊥) → answer ≡ Located.Refused (locateRefusal s i n)
-  pub done : locateRefusal s i n ≡ 0 → answer ≡ Located.At (squareOf s i n)
-  pub says : locatedSays answer ≡ told (locateRefusal s i n) (cornerX s i n ∷ cornerY s i n ∷ sideOn s i ∷ [])
+unfoldable pub squareGives : Shape → ℕ → ℕ → Result (List ℕ)
+squareGives s i n = result (first (squareChecks s i n)) [] (cornerX s i n ∷ cornerY s i n ∷ sideOn s i ∷ [])
 
--- ---- cut of a rectangle, into a buffer that is b at entry and b′ at exit
+-- ---- cut of a rectangle, into a buffer that is b at entry
 
-unfoldable pub cutRefusal : Shape → Rect → ℕ → ℕ
-cutRefusal s r room = unless (allowed s) 1 (unless (fits s r) 9 (unless (leb (length (cut s r)) room) 11 0))
+abbrev pub cutChecks : Shape → Rect → List ℕ → List Bar
+cutChecks s r b = (allowed s, 1) ∷ (fits s r, 9) ∷ (leb (length (cut s r)) (length b), 11) ∷ []
 
-abbrev pub cutSays : Cut → List ℕ
-cutSays (Cut.Refused n) = n ∷ 0 ∷ []
-cutSays (Cut.Listed n) = 0 ∷ n ∷ []
+abbrev pub cutIs : CutOf → Answer (List ℕ)
+cutIs (CutOf.Refused n) = refuse n
+cutIs (CutOf.Listed n) = accept (n ∷ [])
 
-pub record Cuts (s : Shape) (r : Rect) (b b′ : List ℕ) (answer : Cut) : Type 0 where
-  pub refused : (cutRefusal s r (length b) ≡ 0 → ⊥) → (answer ≡ Cut.Refused (cutRefusal s r (length b))) × (b′ ≡ b)
-  pub done : cutRefusal s r (length b) ≡ 0 → (answer ≡ Cut.Listed (length (cut s r))) × (b′ ≡ over (cut s r) b)
-  pub says : cutSays answer ≡ told (cutRefusal s r (length b)) (length (cut s r) ∷ [])
+unfoldable pub cutGives : Shape → Rect → List ℕ → Result (List ℕ)
+cutGives s r b = result (first (cutChecks s r b)) ((cut s r, b) ∷ []) (length (cut s r) ∷ [])

@@ -1,10 +1,29 @@
--- A town's shape and rectangle as document 01 has them, with the bounds.
-use Prim.Native.Nat.{ℕ, _+_, _*_, _^_, _<_, _≤_}
+-- A town's shape and rectangle as document 01 has them, with the limits.
+use Prim.Native.Nat.{ℕ, _+_, _*_, _^_}
 use mathlib.Core.Bool.{Bool, cond, _&&_}
 use lib.Dec.{leb, ltb}
 use Rattle.squares.specs.declared.shape.Shape.{Shape}
 use Rattle.squares.specs.declared.shape.Rect.{Rect}
 use Rattle.squares.specs.declared.shape.Shaped.{Shaped}
+
+-- the limits
+abbrev pub largestK : ℕ
+largestK = 5
+
+abbrev pub largestSide : ℕ
+largestSide = 256
+
+abbrev pub mostZones : ℕ
+mostZones = 256
+
+abbrev pub mostCars : ℕ
+mostCars = 1024
+
+abbrev pub mostEntries : ℕ
+mostEntries = 16384
+
+abbrev pub shape : ℕ → ℕ → ℕ → Shape
+shape k P Q = record { k = k; P = P; Q = Q }
 
 -- the side of a block, L
 abbrev pub side : Shape → ℕ
@@ -17,27 +36,14 @@ width s = s .P * side s
 abbrev pub height : Shape → ℕ
 height s = s .Q * side s
 
--- within the bounds
-pub record Allowed (s : Shape) : Type 0 where
-  pub levels : s .k ≤ 5
-  pub columns : 0 < s .P
-  pub rows : 0 < s .Q
-  pub wide : width s ≤ 256
-  pub high : height s ≤ 256
-
+-- within the limits
 abbrev pub allowed : Shape → Bool
-allowed s = leb (s .k) 5 && (ltb 0 (s .P) && (ltb 0 (s .Q) && (leb (width s) 256 && leb (height s) 256)))
+allowed s = leb (s .k) largestK && (ltb 0 (s .P) && (ltb 0 (s .Q) && (leb (width s) largestSide && leb (height s) largestSide)))
 
 -- the answer to k, P and Q
 abbrev pub shaped : ℕ → ℕ → ℕ → Shaped
-shaped k P Q = let s : Shape = record { k = k; P = P; Q = Q } in cond (allowed s) (Shaped.Allowed s) (Shaped.Refused 1)
+shaped k P Q = cond (allowed (shape k P Q)) (Shaped.Allowed (shape k P Q)) (Shaped.Refused 1)
 
 -- a rectangle has cells and lies in the town: what check 9 asks
-pub record Fits (s : Shape) (r : Rect) : Type 0 where
-  pub columns : 0 < r .w
-  pub rows : 0 < r .h
-  pub wide : r .a + r .w ≤ width s
-  pub high : r .b + r .h ≤ height s
-
 abbrev pub fits : Shape → Rect → Bool
 fits s r = ltb 0 (r .w) && (ltb 0 (r .h) && (leb (r .a + r .w) (width s) && leb (r .b + r .h) (height s)))

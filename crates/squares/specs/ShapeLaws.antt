@@ -1,7 +1,7 @@
 -- Laws of shapes: the tests and what they say, and how large things are.
 use Prim.Native.Nat.{ℕ, _+_, _-_, _*_, _/_, _%_, _^_, _<_, _≤_, zero-le}
 use mathlib.Core.Path.{_≡_, refl, sym, subst, _∙_}
-use mathlib.Core.Bool.{true, false}
+use mathlib.Core.Bool.{Bool, true, false, cond}
 use native.Mathlib.Omega.{arith}
 use native.Mathlib.Numerals.{add-one}
 use native.Mathlib.Nat.{mul-left-comm, mul-comm, mul-one, mul-le-mul, mul-le-mul-left, le-mul-of-pos-right, mul-mul-mul-comm, mul-pos, div-lt-iff-lt-mul, le-div-iff-mul-le, le-trans, le-refl, sub-le, pow-succ', mod-le, mod-lt, div-le-self}
@@ -9,22 +9,24 @@ use lib.Dec.{leb, ltb, eqb}
 use mir.Syntax.{w32}
 use mir.Val.{Fits}
 use lib.Arith.{digits-lt}
-use lib.Pow.{pow-pos, pow-mono, pow-add}
+use lib.Pow.{pow-pos, pow-add}
 use borrow.Author.Tests.{le-leb, lt-ltb, eq-eqb, leb-true, ltb-true, eqb-true}
 use Rattle.order.specs.TestLaws.{and→, fails}
 use Rattle.squares.specs.declared.shape.Shape.{Shape}
 use Rattle.squares.specs.declared.shape.Rect.{Rect}
-use Rattle.squares.specs.Shape.{side, width, height, Allowed, allowed, Fits as InTown, fits}
+use Rattle.squares.specs.declared.shape.Shaped.{Shaped}
+use Rattle.squares.specs.Shape.{largestK, largestSide, shape, side, width, height, allowed, shaped, fits}
+use Rattle.squares.specs.Bounds.{Allowed, Fits as InTown}
 use Rattle.squares.specs.Squares.{sideOn, squaresOn, squares, isCorner, block, number, interleave}
 use Rattle.squares.specs.Leaves.{Positive, Below, Bits, OnLevel}
 use Rattle.squares.specs.PowerLaws.{two-two, four-pos, four-small}
 
 pub allowed→ : (s : Shape) → allowed s ≡ true → Allowed s
 allowed→ s e =
-    let a = and→ (leb (s .k) 5) _ e in
+    let a = and→ (leb (s .k) largestK) _ e in
     let b = and→ (ltb 0 (s .P)) _ (a .1) in
     let c = and→ (ltb 0 (s .Q)) _ (b .1) in
-    let d = and→ (leb (width s) 256) _ (c .1) in
+    let d = and→ (leb (width s) largestSide) _ (c .1) in
     record { levels = leb-true _ _ (a .0); columns = ltb-true _ _ (b .0); rows = ltb-true _ _ (c .0); wide = leb-true _ _ (d .0); high = leb-true _ _ (d .1) }
 
 pub →allowed : (s : Shape) → Allowed s → allowed s ≡ true
@@ -32,6 +34,22 @@ pub →allowed : (s : Shape) → Allowed s → allowed s ≡ true
 
 pub not-allowed : (s : Shape) → (Allowed s → ⊥) → allowed s ≡ false
 not-allowed s f = fails (allowed s) (λ (e : allowed s ≡ true). f (allowed→ s e))
+
+-- what the constructor answers: the shape, which is allowed, or none
+made : (b : Bool) (s t : Shape) → b ≡ allowed t → Shaped.Allowed s ≡ cond b (Shaped.Allowed t) (Shaped.Refused 1) → (t ≡ s) × (allowed s ≡ true)
+made true s t h e = let same : t ≡ s = cc in (same, rw (← same) (sym h))
+made false s t h e = absurd (let z : _≡_ {A = ℕ} 0 1 = cc in omega arith)
+
+unmade : (b : Bool) (n : ℕ) (t : Shape) → Shaped.Refused n ≡ cond b (Shaped.Allowed t) (Shaped.Refused 1) → b ≡ false
+unmade true n t e = absurd (let z : _≡_ {A = ℕ} 0 1 = cc in omega arith)
+unmade false n t e = refl
+
+module _ (k P Q : ℕ) {r : Shaped} (h : r ≡ shaped k P Q) where
+  pub shaped→ : {s : Shape} → r ≡ Shaped.Allowed s → (shape k P Q ≡ s) × (allowed s ≡ true)
+  shaped→ {s} e = made (allowed (shape k P Q)) s (shape k P Q) refl (sym e ∙ h)
+
+  pub not-shaped : {n : ℕ} → r ≡ Shaped.Refused n → allowed (shape k P Q) ≡ false
+  not-shaped {n} e = unmade (allowed (shape k P Q)) n (shape k P Q) (sym e ∙ h)
 
 pub fits→ : (s : Shape) (r : Rect) → fits s r ≡ true → InTown s r
 fits→ s r e =
@@ -70,16 +88,10 @@ not-corner s i x y f = fails (isCorner s i x y) (λ (e : isCorner s i x y ≡ tr
 -- ---- how large things are
 
 module _ (s : Shape) (h : Allowed s) where
-  pub side-small : side s ≤ 32
-  side-small = pow-mono (h .levels)
-
-  pub side-on-small : (i : ℕ) → sideOn s i ≤ side s
-  side-on-small i = pow-mono (omega arith)
-
-  pub columns-small : s .P ≤ 256
+  pub columns-small : s .P ≤ largestSide
   columns-small = le-trans (le-mul-of-pos-right (s .P) (pow-pos (s .k))) (h .wide)
 
-  pub rows-small : s .Q ≤ 256
+  pub rows-small : s .Q ≤ largestSide
   rows-small = le-trans (le-mul-of-pos-right (s .Q) (pow-pos (s .k))) (h .high)
 
   pub side-squared : side s * side s ≡ 4 ^ s .k
@@ -106,10 +118,10 @@ module _ (s : Shape) (h : Allowed s) where
 
   -- what the methods work out, from the powers that they ask for
   module _ (r : ℕ) (p : Positive (side s) 32 r) where
-    pub width-is : Positive (width s) 256 (s .P * r)
+    pub width-is : Positive (width s) largestSide (s .P * r)
     width-is = rw (p .is) (record { is = refl; some = mul-pos (h .columns) (pow-pos (s .k)); small = h .wide })
 
-    pub height-is : Positive (height s) 256 (s .Q * r)
+    pub height-is : Positive (height s) largestSide (s .Q * r)
     height-is = rw (p .is) (record { is = refl; some = mul-pos (h .rows) (pow-pos (s .k)); small = h .high })
 
     pub block-is : (x y : ℕ) → x < width s → y < height s → Below (block s x y) (s .P * s .Q) (x / r + y / r * s .P)
@@ -133,11 +145,11 @@ module _ (s : Shape) (h : Allowed s) where
 
 -- what the test of a shape works out
 module _ (s : Shape) (r : ℕ) (p : Positive (side s) 32 r) where
-  pub most→ : (n : ℕ) → n ≤ 256 / r → n * side s ≤ 256
-  most→ n g = subst (λ (t : ℕ). n * t ≤ 256) (p .is) (le-div-iff-mul-le (p .some) .0 g)
+  pub most→ : (n : ℕ) → n ≤ largestSide / r → n * side s ≤ largestSide
+  most→ n g = subst (λ (t : ℕ). n * t ≤ largestSide) (p .is) (le-div-iff-mul-le (p .some) .0 g)
 
-  pub →most : (n : ℕ) → n * side s ≤ 256 → n ≤ 256 / r
-  →most n g = le-div-iff-mul-le (p .some) .1 (subst (λ (t : ℕ). n * t ≤ 256) (sym (p .is)) g)
+  pub →most : (n : ℕ) → n * side s ≤ largestSide → n ≤ largestSide / r
+  →most n g = le-div-iff-mul-le (p .some) .1 (subst (λ (t : ℕ). n * t ≤ largestSide) (sym (p .is)) g)
 
 -- the top bits of two coordinates are as many as the level says
 module _ {s : Shape} {i d e : ℕ} (l : OnLevel s i) (p : Positive (side s) 32 d) (q : Positive (sideOn s i) 32 e) where

@@ -5,7 +5,7 @@ use mathlib.Core.List.{List}
 use lib.Dec.{leb, ltb, eqb}
 use Rattle.order.specs.Order.{upto, keep}
 use Rattle.squares.specs.declared.shape.Shape.{Shape}
-use Rattle.squares.specs.declared.numbers.Square.{Square}
+use Rattle.squares.specs.declared.shape.Square.{Square}
 use Rattle.squares.specs.Shape.{side, width, height}
 
 -- the side of a square

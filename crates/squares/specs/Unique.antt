@@ -1,21 +1,49 @@
 -- Two outcomes that a promise allows for the same arguments are the same.
 use Prim.Native.Nat.{ℕ}
-use mathlib.Core.Path.{_≡_, sym, _∙_}
-use mathlib.Core.List.{List}
-use lib.ListN.{length}
+use mathlib.Core.Path.{_≡_, refl, ap, sym, _∙_}
+use mathlib.Core.List.{List, [], _∷_}
+use lib.ListN.{getD}
 use Rattle.squares.specs.declared.shape.Shape.{Shape}
 use Rattle.squares.specs.declared.shape.Rect.{Rect}
-use Rattle.squares.specs.declared.numbers.Numbered.{Numbered}
-use Rattle.squares.specs.declared.numbers.Located.{Located}
-use Rattle.squares.specs.declared.cut.Cut.{Cut}
-use Rattle.squares.specs.PromiseLaws.{by-refusal}
-use Rattle.squares.specs.Promises.{Numbers, numberRefusal, Locates, locateRefusal, Cuts, cutRefusal}
+use Rattle.squares.specs.declared.numbers.NumberOf.{NumberOf}
+use Rattle.squares.specs.declared.numbers.SquareOf.{SquareOf}
+use Rattle.squares.specs.declared.cut.CutOf.{CutOf}
+use Rattle.squares.specs.Refusals.{Answer, refuse, accept, Result}
+use Rattle.squares.specs.Promises.{makes, numberIs, numberGives, squareIs, squareGives, cutIs, cutGives}
 
-pub numbers-unique : {s : Shape} {i x y : ℕ} {a b : Numbered} → Numbers s i x y a → Numbers s i x y b → a ≡ b
-numbers-unique {s} {i} {x} {y} p q = by-refusal (numberRefusal s i x y) (λ e. p .done e ∙ sym (q .done e)) (λ f. p .refused f ∙ sym (q .refused f))
+-- each answer back from its number and values
 
-pub locates-unique : {s : Shape} {i n : ℕ} {a b : Located} → Locates s i n a → Locates s i n b → a ≡ b
-locates-unique {s} {i} {n} p q = by-refusal (locateRefusal s i n) (λ e. p .done e ∙ sym (q .done e)) (λ f. p .refused f ∙ sym (q .refused f))
+abbrev numberBack : Answer (List ℕ) → NumberOf
+numberBack (refuse n) = NumberOf.Refused n
+numberBack (accept l) = NumberOf.Number (getD l 0 0)
 
-pub cuts-unique : {s : Shape} {r : Rect} {b c d : List ℕ} {x y : Cut} → Cuts s r b c x → Cuts s r b d y → (x ≡ y) × (c ≡ d)
-cuts-unique {s} {r} {b} p q = by-refusal (cutRefusal s r (length b)) (λ e. (p .done e .0 ∙ sym (q .done e .0), p .done e .1 ∙ sym (q .done e .1))) (λ f. (p .refused f .0 ∙ sym (q .refused f .0), p .refused f .1 ∙ sym (q .refused f .1)))
+number-back : (a : NumberOf) → numberBack (numberIs a) ≡ a
+number-back (NumberOf.Refused n) = refl
+number-back (NumberOf.Number n) = refl
+
+abbrev squareBack : Answer (List ℕ) → SquareOf
+squareBack (refuse n) = SquareOf.Refused n
+squareBack (accept l) = SquareOf.Square (record { x = getD l 0 0; y = getD l 1 0; side = getD l 2 0 })
+
+square-back : (a : SquareOf) → squareBack (squareIs a) ≡ a
+square-back (SquareOf.Refused n) = refl
+square-back (SquareOf.Square q) = refl
+
+abbrev cutBack : Answer (List ℕ) → CutOf
+cutBack (refuse n) = CutOf.Refused n
+cutBack (accept l) = CutOf.Listed (getD l 0 0)
+
+cut-back : (a : CutOf) → cutBack (cutIs a) ≡ a
+cut-back (CutOf.Refused n) = refl
+cut-back (CutOf.Listed n) = refl
+
+-- ---- the theorems
+
+pub number-unique : (s : Shape) (i x y : ℕ) {a b : NumberOf} → makes [] (numberIs a) ≡ numberGives s i x y → makes [] (numberIs b) ≡ numberGives s i x y → a ≡ b
+number-unique s i x y {a} {b} p q = sym (number-back a) ∙ ap (λ (o : Result (List ℕ)). numberBack (o .answer)) (p ∙ sym q) ∙ number-back b
+
+pub square-unique : (s : Shape) (i n : ℕ) {a b : SquareOf} → makes [] (squareIs a) ≡ squareGives s i n → makes [] (squareIs b) ≡ squareGives s i n → a ≡ b
+square-unique s i n {a} {b} p q = sym (square-back a) ∙ ap (λ (o : Result (List ℕ)). squareBack (o .answer)) (p ∙ sym q) ∙ square-back b
+
+pub cut-unique : (s : Shape) (r : Rect) (b : List ℕ) {c d : List ℕ} {x y : CutOf} → makes (c ∷ []) (cutIs x) ≡ cutGives s r b → makes (d ∷ []) (cutIs y) ≡ cutGives s r b → (x ≡ y) × (c ≡ d)
+cut-unique s r b {x = x} {y = y} p q = (sym (cut-back x) ∙ ap (λ (o : Result (List ℕ)). cutBack (o .answer)) (p ∙ sym q) ∙ cut-back y, ap (λ (o : Result (List ℕ)). getD (o .buffers) 0 []) (p ∙ sym q))

@@ -3,32 +3,36 @@ use crate::descent::cut_levels;
 use crate::powers::two_to;
 use crate::shape::Rect;
 use crate::shape::Shape;
+use crate::shape::Shaped;
+ghost use mathlib.Core.Path.{_≡_};
+ghost use mathlib.Core.List.{[], _∷_};
 ghost use Prim.Native.Nat.{_^_};
+ghost use Rattle.squares.specs.Shape.{shape};
 ghost use Rattle.squares.specs.Count.{wholes};
 ghost use Rattle.squares.specs.Leaves.{AllRoom, Counted, Stretch, Below};
-ghost use Rattle.squares.specs.Promises.{Cuts};
+ghost use Rattle.squares.specs.Promises.{makes, cutIs, cutGives};
 
-pub enum Cut {
+pub enum CutOf {
     Refused(u32),
     Listed(usize),
 }
 
 // Writes the squares of the cut to the front of `out` and answers how many they are.
 // They are counted first, so that a refusal leaves the buffer as it was.
-pub fn cut_rectangle(s: Shape, r: Rect, out: &mut [u32]) -> Cut
-    ensures { λ t. ⌜ Cuts s r (now (out .entry)) (now (out .exit)) t ⌝ }
+pub fn cut_of_rectangle(k: u32, P: u32, Q: u32, r: Rect, out: &mut [u32]) -> CutOf
+    ensures { λ t. ⌜ makes (now (out .exit) ∷ []) (cutIs t) ≡ cutGives (shape k P Q) r (now (out .entry)) ⌝ }
 {
-    if !s.allowed() {
-        return Cut::Refused(1);
-    }
+    let Shaped::Allowed(s) = Shape::new(k, P, Q) else {
+        return CutOf::Refused(1);
+    };
     if !s.fits(r) {
-        return Cut::Refused(9);
+        return CutOf::Refused(9);
     }
     let count = cut_count(s, r);
     if out.len() < count {
-        return Cut::Refused(11);
+        return CutOf::Refused(11);
     }
-    Cut::Listed(cut_levels(s, r, out))
+    CutOf::Listed(cut_levels(s, r, out))
 }
 
 // How many squares the cut has. Of those inside on a level, four for each one inside on the level

@@ -1,49 +1,47 @@
 // The number of a square and the square of a number.
 use crate::shape::Shape;
-ghost use Rattle.squares.specs.Promises.{Numbers, Locates};
+use crate::shape::Shaped;
+use crate::shape::Square;
+ghost use mathlib.Core.Path.{_≡_};
+ghost use mathlib.Core.List.{[]};
+ghost use Rattle.squares.specs.Shape.{shape};
+ghost use Rattle.squares.specs.Promises.{makes, numberIs, numberGives, squareIs, squareGives};
 
-// A square by its southwest corner and its side.
-pub struct Square {
-    pub x: u32,
-    pub y: u32,
-    pub side: u32,
-}
-
-pub enum Numbered {
+pub enum NumberOf {
     Refused(u32),
     Number(u32),
 }
 
-pub enum Located {
+pub enum SquareOf {
     Refused(u32),
-    At(Square),
+    Square(Square),
 }
 
 // The number of the square on a level with southwest corner (x, y).
-pub fn number_square(s: Shape, level: u32, x: u32, y: u32) -> Numbered
-    ensures { λ r. ⌜ Numbers s level x y r ⌝ }
+pub fn number_of_square(k: u32, P: u32, Q: u32, level: u32, x: u32, y: u32) -> NumberOf
+    ensures { λ r. ⌜ makes [] (numberIs r) ≡ numberGives (shape k P Q) level x y ⌝ }
 {
-    if !s.allowed() {
-        return Numbered::Refused(1);
-    }
+    let Shaped::Allowed(s) = Shape::new(k, P, Q) else {
+        return NumberOf::Refused(1);
+    };
     if !s.is_corner(level, x, y) {
-        return Numbered::Refused(13);
+        return NumberOf::Refused(13);
     }
-    Numbered::Number(s.number(level, x, y))
+    NumberOf::Number(s.number(level, x, y))
 }
 
 // The corner and side of the square on a level with number n.
-pub fn locate_square(s: Shape, level: u32, n: u32) -> Located
-    ensures { λ r. ⌜ Locates s level n r ⌝ }
+pub fn square_of_number(k: u32, P: u32, Q: u32, level: u32, n: u32) -> SquareOf
+    ensures { λ r. ⌜ makes [] (squareIs r) ≡ squareGives (shape k P Q) level n ⌝ }
 {
-    if !s.allowed() {
-        return Located::Refused(1);
-    }
+    let Shaped::Allowed(s) = Shape::new(k, P, Q) else {
+        return SquareOf::Refused(1);
+    };
     if s.k < level {
-        return Located::Refused(13);
+        return SquareOf::Refused(13);
     }
     if s.squares_on(level) <= n {
-        return Located::Refused(13);
+        return SquareOf::Refused(13);
     }
-    Located::At(s.square(level, n))
+    SquareOf::Square(s.square(level, n))
 }

@@ -1,10 +1,11 @@
 // Powers of two and four, bits interleaved and taken apart.
 ghost use Prim.Native.Nat.{_^_, _<_, _≤_};
+ghost use Rattle.squares.specs.Shape.{largestK};
 ghost use Rattle.squares.specs.Squares.{interleave, evens};
 ghost use Rattle.squares.specs.Leaves.{Positive, Below, Bits};
 
 pub fn two_to(j: u32) -> u32
-    requires { ⌜ j ≤ 5 ⌝ }
+    requires { ⌜ j ≤ largestK ⌝ }
     ensures { λ r. ⌜ Positive (2 ^ j) 32 r ⌝ }
 {
     1u32 << j
@@ -39,7 +40,7 @@ pub fn interleaved(i: u32, a: u32, b: u32) -> u32
 
 // Every other bit of n from the lowest on, i of them.
 pub fn evens_of(i: u32, n: u32) -> u32
-    requires { ⌜ i ≤ 5 ⌝ }
+    requires { ⌜ i ≤ largestK ⌝ }
     ensures { λ r. ⌜ Below (evens i n) (2 ^ i) r ⌝ }
 {
     let mut r = 0u32;

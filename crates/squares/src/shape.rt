@@ -1,12 +1,12 @@
-// The town's shape, the rectangle, and what comes from them.
-use crate::numbers::Square;
+// The town's shape, a rectangle, a square, and what comes from the shape.
 use crate::powers::evens_of;
 use crate::powers::four_to;
 use crate::powers::interleaved;
 use crate::powers::two_to;
 ghost use mathlib.Core.Path.{_≡_};
-ghost use Prim.Native.Nat.{_*_, _<_, _≤_};
-ghost use Rattle.squares.specs.Shape.{Allowed, allowed, shaped, side, width, height, fits};
+ghost use Prim.Native.Nat.{_*_, _<_};
+ghost use Rattle.squares.specs.Shape.{largestSide, allowed, shaped, side, width, height, fits};
+ghost use Rattle.squares.specs.Bounds.{Allowed};
 ghost use Rattle.squares.specs.Squares.{sideOn, squaresOn, squares, block, number, isCorner, squareOf};
 ghost use Rattle.squares.specs.Cut.{holds};
 ghost use Rattle.squares.specs.Leaves.{Positive, Below, OnMap, OnLevel};
@@ -26,21 +26,29 @@ pub struct Rect {
     pub h: u32,
 }
 
+// A square by its southwest corner and its side.
+pub struct Square {
+    pub x: u32,
+    pub y: u32,
+    pub side: u32,
+}
+
 pub enum Shaped {
     Refused(u32),
     Allowed(Shape),
 }
 
 impl Shape {
-    pub const MAX_K: u32 = 5;
+    // The limits.
+    pub const LARGEST_K: u32 = 5;
 
-    pub const MAX_SIDE: u32 = 256;
+    pub const LARGEST_SIDE: u32 = 256;
 
-    pub const MAX_ZONES: u32 = 256;
+    pub const MOST_ZONES: u32 = 256;
 
-    pub const MAX_CARS: u32 = 1024;
+    pub const MOST_CARS: u32 = 1024;
 
-    pub const MAX_ENTRIES: u32 = 16384;
+    pub const MOST_ENTRIES: u32 = 16384;
 
     // The shape, or 1 where it is beyond the bounds.
     pub fn new(k: u32, P: u32, Q: u32) -> Shaped
@@ -61,7 +69,7 @@ impl Shape {
         let k = self.k;
         let P = self.P;
         let Q = self.Q;
-        if Shape::MAX_K < k {
+        if Shape::LARGEST_K < k {
             return false;
         }
         if P == 0 {
@@ -70,7 +78,7 @@ impl Shape {
         if Q == 0 {
             return false;
         }
-        let most = Shape::MAX_SIDE / two_to(k);
+        let most = Shape::LARGEST_SIDE / two_to(k);
         if most < P {
             return false;
         }
@@ -99,7 +107,7 @@ impl Shape {
     // The columns of the town.
     pub fn width(self) -> u32
         requires { ⌜ Allowed self ⌝ }
-        ensures { λ r. ⌜ Positive (width self) 256 r ⌝ }
+        ensures { λ r. ⌜ Positive (width self) largestSide r ⌝ }
     {
         self.P * self.side()
     }
@@ -107,7 +115,7 @@ impl Shape {
     // The rows of the town.
     pub fn height(self) -> u32
         requires { ⌜ Allowed self ⌝ }
-        ensures { λ r. ⌜ Positive (height self) 256 r ⌝ }
+        ensures { λ r. ⌜ Positive (height self) largestSide r ⌝ }
     {
         self.Q * self.side()
     }

@@ -9,7 +9,7 @@ use Rattle.order.specs.Sums.{bit}
 use Rattle.squares.specs.declared.shape.Shape.{Shape}
 use Rattle.squares.specs.Squares.{squares}
 use Rattle.squares.specs.Cut.{inCut}
-use Rattle.tables.specs.Tables.{Tables, shapeOf, zoneRoom, carRoom, entryRoom, rectOf, stands, rosterHas}
+use Rattle.tables.specs.Tables.{Tables, Derived, shapeOf, zoneRoom, carRoom, entryRoom, rectOf, stands, rosterHas}
 
 -- ---- places: all squares of a town in one row, level 0 first, rising number within a level
 
@@ -54,3 +54,8 @@ startsOf t = map (λ (p : ℕ). length (keysTo t p)) (upto (squares (shapeOf t) 
 
 abbrev pub rostersOf : Tables → List ℕ
 rostersOf t = map (λ (i : ℕ). bit (rosterHas t (i / carRoom t) (i % carRoom t))) (upto (zoneRoom t * carRoom t))
+
+-- ---- all three
+
+abbrev pub derivedOf : Tables → Derived
+derivedOf t = record { starts = startsOf t; entries = entriesOf t; rosters = rostersOf t }

@@ -23,6 +23,7 @@ use Rattle.tables.specs.Tables.{Tables, shapeOf, rectIn, zoneRoom}
 use Rattle.tables.specs.Derived.{on}
 use Rattle.tables.specs.Sound.{Sound}
 use Rattle.tables.specs.RunLaws.{keysAt, start-at, start-within, run-keys, zone-below}
+use Rattle.tables.specs.CheckLaws.{size-of}
 use Rattle.tables.specs.Runs.{run, gathered, only, any, outside, PutIf, Gathers}
 
 -- ---- a run gathered
@@ -157,9 +158,9 @@ gathered-keep room Z h (key ∷ keys) b f =
 -- ---- on sound tables
 
 module _ {t : Tables} (sound : Sound t) (p : ℕ) (there : p < squares (shapeOf t)) where
-  pub run-sound : run (t .starts) (t .entries) p ≡ keysAt t p
+  pub run-sound : run (t .derived .starts) (t .derived .entries) p ≡ keysAt t p
   unfolding run
-  run-sound = rw (le-leb (getD (t .starts) (p + 1) 0) (length (t .entries)) (omega (arith, start-at sound (p + 1) (omega arith), start-within sound (p + 1) (omega arith)))) (run-keys sound p there)
+  run-sound = rw (le-leb (getD (t .derived .starts) (p + 1) 0) (length (t .derived .entries)) (omega (arith, start-at sound (p + 1) (omega arith), start-within sound (p + 1) (omega arith)))) (run-keys sound p there)
 
   key-named : (z : ℕ) → z < 256 → named (keysAt t p) z ≡ on t (p * 256 + z)
   key-named z h = both-ways (named (keysAt t p) z) (on t (p * 256 + z))
@@ -185,8 +186,8 @@ module _ {t : Tables} (sound : Sound t) (p : ℕ) (there : p < squares (shapeOf 
       ap (named (only has (keysAt t p))) (b .2) ∙ →named (only has (keysAt t p)) (b .0) (→keep sel (keysAt t p) (b .0) (b .1) (ap has (sym (b .2)) ∙ a .1)))
 
   -- the zones with f and those on the place's list
-  pub gathered-sound : (room : ℕ) → zoneRoom t ≤ room → (has f : ℕ → Bool) → gathered room (only has (run (t .starts) (t .entries) p)) (keep f (upto (zoneRoom t))) ≡ keep (λ (z : ℕ). f z || (on t (p * 256 + z) && has z)) (upto (zoneRoom t))
+  pub gathered-sound : (room : ℕ) → zoneRoom t ≤ room → (has f : ℕ → Bool) → gathered room (only has (run (t .derived .starts) (t .derived .entries) p)) (keep f (upto (zoneRoom t))) ≡ keep (λ (z : ℕ). f z || (on t (p * 256 + z) && has z)) (upto (zoneRoom t))
   gathered-sound room h has f =
       let keys = only has (keysAt t p) in
       rw run-sound
-      (gathered-keep room (zoneRoom t) h keys (λ k m. zone-below t k (sound .size) (keep→ (on t) (span (p * 256) 256) k (keep→ (λ (key : ℕ). has (key % 256)) (keysAt t p) k m .0) .1)) f ∙ keep-ext (λ (z : ℕ). f z || named keys z) (λ (z : ℕ). f z || (on t (p * 256 + z) && has z)) (upto (zoneRoom t)) (λ z m. ap (λ (b : Bool). f z || b) (only-named has z (omega (arith, span→ 0 (zoneRoom t) z m, sound .size .room .zones-few)))))
+      (gathered-keep room (zoneRoom t) h keys (λ k m. zone-below t k (size-of sound) (keep→ (on t) (span (p * 256) 256) k (keep→ (λ (key : ℕ). has (key % 256)) (keysAt t p) k m .0) .1)) f ∙ keep-ext (λ (z : ℕ). f z || named keys z) (λ (z : ℕ). f z || (on t (p * 256 + z) && has z)) (upto (zoneRoom t)) (λ z m. ap (λ (b : Bool). f z || b) (only-named has z (omega (arith, span→ 0 (zoneRoom t) z m, size-of sound .room .zones-few)))))

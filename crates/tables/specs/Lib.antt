@@ -3,7 +3,10 @@ pub mod Check
 pub mod Derived
 pub mod Sound
 pub mod Steps
+pub mod Lent
+pub mod Sizes
 pub mod Rows
+pub mod Asks
 pub mod Runs
 pub mod CheckLaws
 pub mod RecordLaws
@@ -11,3 +14,4 @@ pub mod PlaceLaws
 pub mod RowLaws
 pub mod RunLaws
 pub mod GatherLaws
+pub mod CountLaws

@@ -35,7 +35,7 @@ pub before-all : (s : Shape) → before s (suc (s .k)) ≡ squares s
 unfolding before
 before-all s = rw (← add-one (s .k))
 
-pub before-mono : (s : Shape) (i j : ℕ) → i ≤ j → before s i ≤ before s j
+before-mono : (s : Shape) (i j : ℕ) → i ≤ j → before s i ≤ before s j
 before-mono s i j h = let e : j ≡ i + (j - i) = omega arith in rw e (go (j - i))
   where
     go : (d : ℕ) → before s i ≤ before s (i + d)

@@ -1,18 +1,77 @@
--- The records as the functions over one table read them.
+-- The records as the functions over one table read them, and as the town has them.
 use Prim.Native.Nat.{ℕ}
-use mathlib.Core.Path.{_≡_, refl}
+use mathlib.Core.Path.{_≡_, refl, ap, sym}
+use mathlib.Core.Bool.{Bool, true, false, cond, _&&_}
 use mathlib.Core.List.{List, [], _∷_}
+use mathlib.Core.Option.{none, some}
 use native.Mathlib.Omega.{arith}
 use lib.ListN.{length, set}
-use Rattle.tables.specs.Tables.{Tables, stands, standsIn, placed, placedIn}
+use Rattle.squares.specs.Cut.{holds}
+use Rattle.position.specs.Answer.{columnOf, rowOf}
+use Rattle.model.specs.Model.{known, there}
+use Rattle.tables.specs.Tables.{Tables, Derived, shapeOf, rectOf, stands, standsIn, placed, placedIn, spotOf, zoneIn, carIn, zoneHolds, rosterHas}
+use Rattle.tables.specs.Derived.{startsOf, entriesOf, rostersOf}
+use Rattle.tables.specs.Sound.{Sound}
 
-pub stands-is : (t : Tables) (z : ℕ) → standsIn (t .zones) z ≡ stands t z
-unfolding stands
-stands-is t z = refl
+known-if : {A : Type 0} (b : Bool) (a : A) → known (cond b (some a) none) ≡ b
+known-if true a = refl
+known-if false a = refl
 
-pub placed-is : (t : Tables) (c : ℕ) → placedIn (t .cars) c ≡ placed t c
-unfolding placed
-placed-is t c = refl
+there-if : {A : Type 0} (b : Bool) (a : A) (test : A → Bool) → there (cond b (some a) none) test ≡ (b && test a)
+there-if true a test = refl
+there-if false a test = refl
+
+module _ (t : Tables) where
+  pub stands-known : (z : ℕ) → known (zoneIn t z) ≡ stands t z
+  unfolding zoneIn
+  stands-known z = known-if (stands t z) (rectOf t z)
+
+  pub placed-known : (c : ℕ) → known (carIn t c) ≡ placed t c
+  unfolding carIn
+  placed-known c = known-if (placed t c) (spotOf t c)
+
+  -- as the code reads them
+  pub zone-known : (z : ℕ) → standsIn (t .records .zones) z ≡ known (zoneIn t z)
+  unfolding stands
+  zone-known z = sym (stands-known z)
+
+  pub car-known : (c : ℕ) → placedIn (t .records .cars) c ≡ known (carIn t c)
+  unfolding placed
+  car-known c = sym (placed-known c)
+
+  pub zone-out : (z : ℕ) → stands t z ≡ false → zoneIn t z ≡ none
+  unfolding zoneIn
+  zone-out z e = rw e
+
+  pub car-in : (c : ℕ) → placed t c ≡ true → carIn t c ≡ some (spotOf t c)
+  unfolding carIn
+  car-in c e = rw e
+
+  pub car-out : (c : ℕ) → placed t c ≡ false → carIn t c ≡ none
+  unfolding carIn
+  car-out c e = rw e
+
+  -- a zone that stands, and whose rectangle holds the cell
+  pub zone-holds : (z x y : ℕ) → zoneHolds t z x y ≡ (stands t z && holds (rectOf t z) x y)
+  unfolding zoneHolds zoneIn
+  zone-holds z x y = there-if (stands t z) (rectOf t z) (λ r. holds r x y)
+
+  -- a car on the map, whose cell the zone holds
+  pub roster-has : (z c : ℕ) → rosterHas t z c ≡ (placed t c && zoneHolds t z (columnOf (shapeOf t) (spotOf t c)) (rowOf (shapeOf t) (spotOf t c)))
+  unfolding rosterHas carIn zoneHolds
+  roster-has z c = there-if (placed t c) (spotOf t c) _
+
+-- ---- what is derived, table by table
+
+module _ {t : Tables} (sound : Sound t) where
+  pub starts-fresh : t .derived .starts ≡ startsOf t
+  starts-fresh = ap (λ (d : Derived). d .starts) (sound .derived)
+
+  pub entries-fresh : t .derived .entries ≡ entriesOf t
+  entries-fresh = ap (λ (d : Derived). d .entries) (sound .derived)
+
+  pub rosters-fresh : t .derived .rosters ≡ rostersOf t
+  rosters-fresh = ap (λ (d : Derived). d .rosters) (sound .derived)
 
 -- six numbers written one after the other
 pub head-written : (l : List ℕ) (k P Q Z C E : ℕ) → length l ≡ 6 → set (set (set (set (set (set l 0 k) 1 P) 2 Q) 3 Z) 4 C) 5 E ≡ k ∷ P ∷ Q ∷ Z ∷ C ∷ E ∷ []

@@ -18,8 +18,9 @@ use Rattle.order.specs.Buffer.{Wrote}
 use Rattle.order.specs.BufferLaws.{wrote-none, wrote-more}
 use Rattle.order.specs.KeepLaws.{span-add, keep-append, keep-ext, span→, length-span}
 use Rattle.tables.specs.Tables.{Tables, zoneRoom, carRoom, rosterHas}
-use Rattle.tables.specs.Check.{Sized}
+use Rattle.tables.specs.Sizes.{Sized}
 use Rattle.tables.specs.Sound.{Sound}
+use Rattle.tables.specs.RecordLaws.{rosters-fresh}
 use Rattle.tables.specs.Rows.{marked, row, Adds, RowThere}
 
 -- ---- a part lent and written
@@ -73,7 +74,7 @@ pub adds-one : (byte c : ℕ) (b b′ : List ℕ) (at : ℕ) → (byte ≡ 0 →
 adds-one byte c b b′ at f e = record { wrote = rw (lt-ltb 0 byte (omega arith)) (record { stored = e; next = refl }); most = omega arith }
 
 -- a zone's row is in the table
-pub row-in : (t : Tables) → Sized t → (z : ℕ) → z < zoneRoom t → RowThere (t .rosters) z (carRoom t)
+pub row-in : (t : Tables) → Sized t → (z : ℕ) → z < zoneRoom t → RowThere (t .derived .rosters) z (carRoom t)
 row-in t h z g =
     let most = mul-le-mul-right (carRoom t) g in
     record {
@@ -102,11 +103,11 @@ marked-bit : (b : Bool) → ltb 0 (bit b) ≡ b
 marked-bit true = refl
 marked-bit false = refl
 
-pub roster-byte : (t : Tables) → Sound t → (z c : ℕ) → z < zoneRoom t → c < carRoom t → getD (t .rosters) (z * carRoom t + c) 0 ≡ bit (rosterHas t z c)
+pub roster-byte : (t : Tables) → Sound t → (z c : ℕ) → z < zoneRoom t → c < carRoom t → getD (t .derived .rosters) (z * carRoom t + c) 0 ≡ bit (rosterHas t z c)
 roster-byte t h z c g l =
-    ap (λ (l : List ℕ). getD l (z * carRoom t + c) 0) (h .rosters)
+    ap (λ (l : List ℕ). getD l (z * carRoom t + c) 0) (rosters-fresh h)
     ∙ map-span (λ (i : ℕ). bit (rosterHas t (i / carRoom t) (i % carRoom t))) 0 0 (zoneRoom t * carRoom t) (z * carRoom t + c) (digits-lt g l)
     ∙ rw (zero-add (z * carRoom t + c), digits-div z l, digits-mod z l)
 
-pub sound-row : (t : Tables) → Sound t → (z : ℕ) → z < zoneRoom t → row (t .rosters) (z * carRoom t) (carRoom t) ≡ keep (rosterHas t z) (upto (carRoom t))
-sound-row t h z g = keep-ext (marked (t .rosters) (z * carRoom t)) (rosterHas t z) (upto (carRoom t)) (λ c m. ap (ltb 0) (roster-byte t h z c g (omega (arith, span→ 0 (carRoom t) c m))) ∙ marked-bit (rosterHas t z c))
+pub sound-row : (t : Tables) → Sound t → (z : ℕ) → z < zoneRoom t → row (t .derived .rosters) (z * carRoom t) (carRoom t) ≡ keep (rosterHas t z) (upto (carRoom t))
+sound-row t h z g = keep-ext (marked (t .derived .rosters) (z * carRoom t)) (rosterHas t z) (upto (carRoom t)) (λ c m. ap (ltb 0) (roster-byte t h z c g (omega (arith, span→ 0 (carRoom t) c m))) ∙ marked-bit (rosterHas t z c))

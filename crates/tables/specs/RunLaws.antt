@@ -19,10 +19,11 @@ use Rattle.squares.specs.Cut.{holds, inCut}
 use Rattle.squares.specs.SquareLaws.{number-below}
 use Rattle.squares.specs.CutLaws.{one-level, no-level}
 use Rattle.tables.specs.Tables.{Tables, shapeOf, zoneRoom, entryRoom, rectOf, stands, zoneHolds}
-use Rattle.tables.specs.Check.{Sized}
+use Rattle.tables.specs.Sizes.{Sized}
 use Rattle.tables.specs.Derived.{place, on, keysTo, used, free}
 use Rattle.tables.specs.Sound.{Sound}
 use Rattle.tables.specs.PlaceLaws.{level-place, number-place}
+use Rattle.tables.specs.RecordLaws.{starts-fresh, entries-fresh, zone-holds}
 use Rattle.tables.specs.RowLaws.{mapped-at}
 
 -- the keys of the square at place p
@@ -36,34 +37,31 @@ keysFrom t p d = keep (on t) (span (p * 256) (d * 256))
 pub keys-add : (t : Tables) (p d : ℕ) → keysTo t (p + d) ≡ keysTo t p ++ keysFrom t p d
 keys-add t p d = ap (λ (n : ℕ). keep (on t) (upto n)) (add-mul p d 256) ∙ rw (span-add 0 (p * 256) (d * 256), zero-add (p * 256)) (keep-append (on t) (upto (p * 256)) (span (p * 256) (d * 256)))
 
-pub keys-more : (t : Tables) (p : ℕ) → keysTo t (p + 1) ≡ keysTo t p ++ keysAt t p
+keys-more : (t : Tables) (p : ℕ) → keysTo t (p + 1) ≡ keysTo t p ++ keysAt t p
 keys-more t p = keys-add t p 1
 
-pub starts-rise : (t : Tables) (p : ℕ) → length (keysTo t p) ≤ length (keysTo t (p + 1))
-starts-rise t p = rw (keys-more t p, length-append (keysTo t p) (keysAt t p)) (omega arith)
-
 module _ {t : Tables} (sound : Sound t) where
-  pub start-at : (p : ℕ) → p ≤ squares (shapeOf t) → getD (t .starts) p 0 ≡ length (keysTo t p)
-  start-at p h = mapped-at (t .starts) (λ (q : ℕ). length (keysTo t q)) (squares (shapeOf t) + 1) p (sound .starts) (omega arith)
+  pub start-at : (p : ℕ) → p ≤ squares (shapeOf t) → getD (t .derived .starts) p 0 ≡ length (keysTo t p)
+  start-at p h = mapped-at (t .derived .starts) (λ (q : ℕ). length (keysTo t q)) (squares (shapeOf t) + 1) p (starts-fresh sound) (omega arith)
 
   -- the entries are the keys before a place, its own, and others
-  split : (p : ℕ) → p < squares (shapeOf t) → (rest : List ℕ) × (t .entries ≡ keysTo t p ++ (keysAt t p ++ rest))
+  split : (p : ℕ) → p < squares (shapeOf t) → (rest : List ℕ) × (t .derived .entries ≡ keysTo t p ++ (keysAt t p ++ rest))
   split p h =
       let d = squares (shapeOf t) - (p + 1) in
       let e : squares (shapeOf t) ≡ p + 1 + d = omega arith in
       let r = replicate (entryRoom t - length (used t)) free in
-      (keysFrom t (p + 1) d ++ r, sound .entries ∙ ap (λ (l : List ℕ). l ++ r) (ap (keysTo t) e ∙ keys-add t (p + 1) d ∙ ap (λ (l : List ℕ). l ++ keysFrom t (p + 1) d) (keys-more t p)) ∙ simp append-assoc)
+      (keysFrom t (p + 1) d ++ r, entries-fresh sound ∙ ap (λ (l : List ℕ). l ++ r) (ap (keysTo t) e ∙ keys-add t (p + 1) d ∙ ap (λ (l : List ℕ). l ++ keysFrom t (p + 1) d) (keys-more t p)) ∙ simp append-assoc)
 
   -- all starts lie within the entries
-  pub start-within : (p : ℕ) → p ≤ squares (shapeOf t) → length (keysTo t p) ≤ length (t .entries)
+  pub start-within : (p : ℕ) → p ≤ squares (shapeOf t) → length (keysTo t p) ≤ length (t .derived .entries)
   start-within p h =
       let d = squares (shapeOf t) - p in
       let e : squares (shapeOf t) ≡ p + d = omega arith in
       let u = ap length (ap (keysTo t) e ∙ keys-add t p d) in
-      omega (arith, ap length (sound .entries), length-append (used t) (replicate (entryRoom t - length (used t)) free), u, length-append (keysTo t p) (keysFrom t p d))
+      omega (arith, ap length (entries-fresh sound), length-append (used t) (replicate (entryRoom t - length (used t)) free), u, length-append (keysTo t p) (keysFrom t p d))
 
   -- the run of a place is its square's keys
-  pub run-keys : (p : ℕ) → p < squares (shapeOf t) → take (getD (t .starts) (p + 1) 0 - getD (t .starts) p 0) (drop (getD (t .starts) p 0) (t .entries)) ≡ keysAt t p
+  pub run-keys : (p : ℕ) → p < squares (shapeOf t) → take (getD (t .derived .starts) (p + 1) 0 - getD (t .derived .starts) p 0) (drop (getD (t .derived .starts) p 0) (t .derived .entries)) ≡ keysAt t p
   run-keys p h =
       let s = split p h in
       let n : length (keysTo t (p + 1)) - length (keysTo t p) ≡ length (keysAt t p) = rw (keys-more t p, length-append (keysTo t p) (keysAt t p)) (omega arith) in
@@ -73,7 +71,7 @@ module _ {t : Tables} (sound : Sound t) where
 -- ---- a square's key for a zone
 
 -- a key is on when its zone stands and its square is in the cut of the zone
-pub on-place : (t : Tables) (i n z : ℕ) → z < 256 → i ≤ shapeOf t .k → n < squaresOn (shapeOf t) i → on t (place (shapeOf t) i n * 256 + z) ≡ (stands t z && inCut (shapeOf t) (rectOf t z) i n)
+on-place : (t : Tables) (i n z : ℕ) → z < 256 → i ≤ shapeOf t .k → n < squaresOn (shapeOf t) i → on t (place (shapeOf t) i n * 256 + z) ≡ (stands t z && inCut (shapeOf t) (rectOf t z) i n)
 unfolding on
 on-place t i n z b h g = rw (digits-div (place (shapeOf t) i n) b, digits-mod (place (shapeOf t) i n) b, number-place (shapeOf t) i n h g, level-place (shapeOf t) i n h g)
 
@@ -87,22 +85,20 @@ module _ (t : Tables) (x y z : ℕ) (column : x < width (shapeOf t)) (row : y < 
   on-cell i h = on-place t i (number (shapeOf t) i x y) z few h (number-below (shapeOf t) i x y h column row)
 
   pub holds→level : zoneHolds t z x y ≡ true → (i : ℕ) × (i ≤ shapeOf t .k) × (onCell t x y i z ≡ true)
-  unfolding zoneHolds
   holds→level e =
-      let a = and→ (stands t z) (holds (rectOf t z) x y) e in
+      let a = and→ (stands t z) (holds (rectOf t z) x y) (sym (zone-holds t z x y) ∙ e) in
       let l = one-level (shapeOf t) (rectOf t z) x y column (a .1) in
       (l .level, l .there, on-cell (l .level) (l .there) ∙ ap₂ _&&_ (a .0) (l .taken))
 
   pub level→holds : (i : ℕ) → i ≤ shapeOf t .k → onCell t x y i z ≡ true → zoneHolds t z x y ≡ true
-  unfolding zoneHolds
   level→holds i h e =
       let a = and→ (stands t z) (inCut (shapeOf t) (rectOf t z) i (number (shapeOf t) i x y)) (sym (on-cell i h) ∙ e) in
-      rw (a .0) (⊎-elim (λ (f : holds (rectOf t z) x y ≡ true). f) (λ (f : holds (rectOf t z) x y ≡ false). absurd (true-not-false _ (a .1) (no-level (shapeOf t) (rectOf t z) i x y h column f))) (true-or-false (holds (rectOf t z) x y)))
+      rw (zone-holds t z x y, a .0) (⊎-elim (λ (f : holds (rectOf t z) x y ≡ true). f) (λ (f : holds (rectOf t z) x y ≡ false). absurd (true-not-false _ (a .1) (no-level (shapeOf t) (rectOf t z) i x y h column f))) (true-or-false (holds (rectOf t z) x y)))
 
 -- a standing zone's number is below the capacity
 pub stands-below : (t : Tables) (z : ℕ) → Sized t → stands t z ≡ true → z < zoneRoom t
 unfolding stands
-stands-below t z h e = ⊎-elim (λ (l : z < zoneRoom t). l) (λ (l : zoneRoom t ≤ z). absurd (true-not-false _ e (le-ltb 0 (rectOf t z .w) (omega (arith, List·getD-eq-default (t .zones) 0 {n = 4 * z + 2} (omega (arith, h .lengths .zones))))))) (lt-or-le z (zoneRoom t))
+stands-below t z h e = ⊎-elim (λ (l : z < zoneRoom t). l) (λ (l : zoneRoom t ≤ z). absurd (true-not-false _ e (le-ltb 0 (rectOf t z .w) (omega (arith, List·getD-eq-default (t .records .zones) 0 {n = 4 * z + 2} (omega (arith, h .lengths .zones))))))) (lt-or-le z (zoneRoom t))
 
 -- so is the zone of a key that is on
 pub zone-below : (t : Tables) (key : ℕ) → Sized t → on t key ≡ true → key % 256 < zoneRoom t

@@ -5,9 +5,11 @@ use crate::records::shape_in;
 use crate::records::zone_room;
 use squares::Shape;
 ghost use mathlib.Core.Path.{_≡_};
-ghost use Rattle.squares.specs.Shape.{Allowed};
-ghost use Rattle.tables.specs.Tables.{tables};
-ghost use Rattle.tables.specs.Check.{Roomy, roomy, long, sized};
+ghost use Rattle.squares.specs.Bounds.{Allowed};
+ghost use Rattle.model.specs.Model.{roomy};
+ghost use Rattle.tables.specs.Lent.{lent};
+ghost use Rattle.tables.specs.Check.{long, sized};
+ghost use Rattle.tables.specs.Sizes.{Roomy};
 
 // Whether the capacities of zones, cars and entries are within the bounds.
 pub fn roomy(Z: u32, C: u32, E: u32) -> bool
@@ -16,19 +18,19 @@ pub fn roomy(Z: u32, C: u32, E: u32) -> bool
     if Z == 0 {
         return false;
     }
-    if Shape::MAX_ZONES < Z {
+    if Shape::MOST_ZONES < Z {
         return false;
     }
     if C == 0 {
         return false;
     }
-    if Shape::MAX_CARS < C {
+    if Shape::MOST_CARS < C {
         return false;
     }
     if E == 0 {
         return false;
     }
-    if Shape::MAX_ENTRIES < E {
+    if Shape::MOST_ENTRIES < E {
         return false;
     }
     true
@@ -50,7 +52,7 @@ pub fn long(
 ) -> bool
     requires { ⌜ Allowed s ⌝ }
     requires { ⌜ Roomy Z C E ⌝ }
-    ensures { λ r. ⌜ r ≡ long s Z C E (tables (now (head .entry)) (now (zones .entry)) (now (cars .entry)) (now (spots .entry)) (now (starts .entry)) (now (entries .entry)) (now (rosters .entry))) ⌝ }
+    ensures { λ r. ⌜ r ≡ long s Z C E (lent head zones cars spots starts entries rosters .entry) ⌝ }
 {
     let many_zones = Z as usize;
     let many_cars = C as usize;
@@ -88,7 +90,7 @@ pub fn sized(
     entries: &[u32],
     rosters: &[u8],
 ) -> bool
-    ensures { λ r. ⌜ r ≡ sized (tables (now (head .entry)) (now (zones .entry)) (now (cars .entry)) (now (spots .entry)) (now (starts .entry)) (now (entries .entry)) (now (rosters .entry))) ⌝ }
+    ensures { λ r. ⌜ r ≡ sized (lent head zones cars spots starts entries rosters .entry) ⌝ }
 {
     if head.len() != 6 {
         return false;

@@ -2,7 +2,7 @@
 use squares::Shape;
 ghost use Prim.Native.Nat.{_<_};
 ghost use mathlib.Core.Path.{_≡_};
-ghost use Rattle.squares.specs.Shape.{Allowed};
+ghost use Rattle.squares.specs.Bounds.{Allowed};
 ghost use Rattle.squares.specs.Squares.{squaresOn, squares};
 ghost use Rattle.squares.specs.Leaves.{OnLevel, Below};
 ghost use Rattle.tables.specs.Derived.{place};

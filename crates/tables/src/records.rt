@@ -5,6 +5,7 @@ use squares::Shape;
 ghost use Prim.Native.Nat.{_+_, _*_, _<_, _≤_};
 ghost use mathlib.Core.Path.{_≡_};
 ghost use lib.ListN.{length, getD};
+ghost use Rattle.squares.specs.Shape.{shape};
 ghost use Rattle.tables.specs.Tables.{headOf, shapeIn, rectIn, standsIn, placedIn, spotIn};
 
 pub fn shape_in(head: &[u32]) -> Shape
@@ -18,13 +19,13 @@ pub fn shape_in(head: &[u32]) -> Shape
     }
 }
 
-pub fn write_head(head: &mut [u32], s: Shape, Z: u32, C: u32, E: u32)
+pub fn write_head(head: &mut [u32], k: u32, P: u32, Q: u32, Z: u32, C: u32, E: u32)
     requires { ⌜ length (now head) ≡ 6 ⌝ }
-    ensures { λ _. ⌜ now (head .exit) ≡ headOf s Z C E ⌝ }
+    ensures { λ _. ⌜ now (head .exit) ≡ headOf (shape k P Q) Z C E ⌝ }
 {
-    head[0] = s.k;
-    head[1] = s.P;
-    head[2] = s.Q;
+    head[0] = k;
+    head[1] = P;
+    head[2] = Q;
     head[3] = Z;
     head[4] = C;
     head[5] = E;

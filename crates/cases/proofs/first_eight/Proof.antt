@@ -1,3 +1,4 @@
+-- `first_eight` stays within the list.
 use Prim.Native.Nat.{_≤_, _-_}
 use lib.ListN.{length}
 use borrow.Author.Needs.{needs}

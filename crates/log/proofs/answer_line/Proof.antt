@@ -1,8 +1,16 @@
+-- `answer_line` steps, and writes as much of the buffer as the answer is long.
 use native.Mathlib.Omega.{arith}
 use Rattle.order.specs.BufferLaws.{count-front}
 use borrow.Author.Needs.{needs}
 use Rattle.log.proofs.answer_line.Statement.{statement}
 use Rattle.log.proofs.answer_line.Tie as tie
+
+-- ---- stations: from each an earlier one
+
+abbrev stepped : tie.After-out3 → tie.After-step
+stepped c = c .before .before .before .before .before .before .before .before .before .before .before .before .before .before .before .before
+
+-- ---- needs
 
 slice-aggregate-step : tie.Need-slice-aggregate-step
 slice-aggregate-step c = search needs
@@ -14,7 +22,7 @@ array-share-prefix-out : tie.Need-array-share-prefix-out
 array-share-prefix-out c = search needs
 
 slice-aggregate-write-all : tie.Need-slice-aggregate-write-all
-slice-aggregate-write-all c = count-front _ (c .before .before .before .before .before .before .before .before .before .before .before .before .before .before .before .before .step .last .1 .1 .1 .1 .1 .1 .1 .1 .0) (omega (arith, c .before .before .before .before .before .before .before .before .before .before .before .before .before .before .before .before .step .ensures .text .most, c .before .before .before .before .before .before .before .before .before .before .before .before .before .before .before .before .step .kept .1 .1 .1 .1 .1 .1 .1 .1 .0))
+slice-aggregate-write-all c = count-front _ (stepped c .step .last .1 .1 .1 .1 .1 .1 .1 .1 .0) (omega (arith, stepped c .step .ensures .text .most, stepped c .step .kept .1 .1 .1 .1 .1 .1 .1 .1 .0))
 
 write-all-requires : tie.Need-write-all-requires
 write-all-requires c κs = search needs
@@ -41,7 +49,7 @@ same-length-7 : tie.Need-same-length-7
 same-length-7 c = search needs
 
 returns : tie.Need-returns
-returns c = record { tables = c .before .before .before .before .before .before .before .before .before .before .before .before .before .before .before .before .before .step .ensures .tables; ready = c .before .before .before .before .before .before .before .before .before .before .before .before .before .before .before .before .before .step .ensures .ready }
+returns c = record { tables = stepped (c .before) .step .ensures .tables; ready = stepped (c .before) .step .ensures .ready }
 
 pub answer-line-spec : {M : Type 1} → statement M
 answer-line-spec =

@@ -1,3 +1,4 @@
+-- `main` lends its own arrays; all 0, they hold no open town.
 use mathlib.Core.Path.{refl}
 use Rattle.log.specs.PieceLaws.{closed-ready}
 use borrow.Author.Needs.{needs}

@@ -1,3 +1,4 @@
+-- `put` leaves a full buffer and a number that is there as they are, and else slides the number in at its rank.
 use Prim.Native.Nat.{_<_, _≤_}
 use mathlib.Core.Path.{_≡_}
 use mathlib.Core.Logic.{⊎-elim}
@@ -8,11 +9,27 @@ use borrow.Author.Needs.{needs}
 use Rattle.order.proofs.put.Statement.{statement}
 use Rattle.order.proofs.put.Tie as tie
 
-within : (c : tie.After-rank-of) → c .rank-of .result ≤ c .before .before .before .before .args .n
-within c = rank-within _ _ _ (c .before .before .before .before .pre) _ (c .rank-of .ensures)
+-- ---- stations: from each the one before it
 
-new : (c : tie.Joined2) → c .before .rank-of .result < c .before .before .before .before .before .args .n → getD (c .before .before .before .before .before .args .buffer .now) (c .before .rank-of .result) 0 ≡ c .before .before .before .before .before .args .x → ⊥
+abbrev start : tie.After-rank-of → tie.Start
+start c = c .before .before .before .before
+
+abbrev ranked : tie.Joined2 → tie.After-rank-of
+ranked c = c .before
+
+abbrev absent : tie.After-slide → tie.Joined2
+absent c = c .before .before
+
+-- ---- what is known there
+
+within : (c : tie.After-rank-of) → c .rank-of .result ≤ start c .args .n
+within c = rank-within _ _ _ (start c .pre) _ (c .rank-of .ensures)
+
+-- x does not stand at its rank
+new : (c : tie.Joined2) → let r = ranked c in r .rank-of .result < start r .args .n → getD (start r .args .buffer .now) (r .rank-of .result) 0 ≡ start r .args .x → ⊥
 new c h e = ⊎-elim (λ w. w .2 .left e) (λ w. omega arith) (c .if2 .came)
+
+-- ---- needs
 
 returns : tie.Need-returns
 returns c = put-full _ _ _ (c .before .before .pre) (c .if1 .taken)
@@ -36,19 +53,19 @@ same-length : tie.Need-same-length
 same-length c = search needs
 
 returns-2 : tie.Need-returns-2
-returns-2 c = put-there _ _ _ (c .before .before .before .before .before .before .before .pre) _ (c .before .before .before .rank-of .ensures) (omega arith) (c .before .before .if2 .taken) (c .if3 .taken)
+returns-2 c = let found = c .before .before in let r = found .before in put-there _ _ _ (start r .pre) _ (r .rank-of .ensures) (omega arith) (found .if2 .taken) (c .if3 .taken)
 
 add-end : tie.Need-add-end
 add-end c = search needs
 
 mul-slide : tie.Need-mul-slide
-mul-slide c = let h = within (c .before) in search needs
+mul-slide c = let h = within (ranked c) in search needs
 
 sub-slide : tie.Need-sub-slide
-sub-slide c = let h = within (c .before) in omega arith
+sub-slide c = let h = within (ranked c) in omega arith
 
 part-slide-start : tie.Need-part-slide-start
-part-slide-start c = let h = within (c .before) in omega arith
+part-slide-start c = let h = within (ranked c) in omega arith
 
 part-slide-end : tie.Need-part-slide-end
 part-slide-end c = search needs
@@ -60,7 +77,11 @@ same-length-2 : tie.Need-same-length-2
 same-length-2 c = search needs
 
 returns-3 : tie.Need-returns-3
-returns-3 c = put-new _ _ _ (c .before .before .before .before .before .before .before .before .before .pre) _ (c .before .before .before .before .before .rank-of .ensures) (omega arith) (new (c .before .before .before .before)) _ (c .before .before .slide .ensures)
+returns-3 c =
+    let slid = c .before .before in
+    let missing = absent slid in
+    let r = ranked missing in
+    put-new _ _ _ (start r .pre) _ (r .rank-of .ensures) (omega arith) (new missing) _ (slid .slide .ensures)
 
 pub put-spec : {M : Type 1} → statement M
 put-spec =

@@ -1,3 +1,4 @@
+-- `rank_of` has passed i numbers below x, so the rank is i and the rank in what is left.
 use Prim.Native.Nat.{_+_, _-_, _≤_}
 use mathlib.Core.Path.{_≡_, sym, _∙_}
 use native.Mathlib.Nat.{add-zero, zero-add}

@@ -1,3 +1,4 @@
+-- `slide` has moved up the numbers before i, and carries the one that goes in at i.
 use Prim.Native.Nat.{_-_, _≤_}
 use mathlib.Core.Path.{_≡_, refl}
 use mathlib.Core.List.{_∷_, _++_}

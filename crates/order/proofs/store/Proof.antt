@@ -1,3 +1,4 @@
+-- `store` stores a number where the buffer has the place, and else changes nothing.
 use mathlib.Core.Path.{sym}
 use lib.Seq.{set-out}
 use borrow.Author.Needs.{needs}

@@ -1,4 +1,4 @@
--- `position::cell_of` meets its contract. Assumes nothing.
+-- `cell_of` puts a NaN off the map, and answers for any other float what its bits say.
 use mathlib.Core.Path.{_∙_}
 use borrow.Author.Needs.{needs}
 use Rattle.position.proofs.Numbers.{no-number, is-number, by-bits}

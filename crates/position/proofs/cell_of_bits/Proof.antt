@@ -1,4 +1,4 @@
--- `position::cell_of_bits` meets its contract: each test that it makes decides `inRange`. Assumes nothing.
+-- `cell_of_bits` decides `inRange` by each test that it makes.
 use native.Mathlib.Omega.{arith}
 use borrow.Author.Needs.{needs}
 use Rattle.position.proofs.Sides.{far, cell-beyond, cell-inRange}

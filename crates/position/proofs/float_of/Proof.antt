@@ -1,3 +1,4 @@
+-- `float_of` gives the NaN for the bits of one, and else the float with these bits.
 use mathlib.Core.Path.{sym}
 use lib.Ieee.{div, ofBits}
 use Rattle.position.proofs.Nans.{nan-bits, no-nan-bits}

@@ -1,4 +1,4 @@
--- `position::floor` meets its contract. Assumes nothing.
+-- `floor` gives 0 below 1, and from 1 on the digits shifted down.
 use native.Mathlib.Omega.{arith}
 use borrow.Author.Needs.{needs}
 use Rattle.position.proofs.Shifts.{floor-small, floor-down}

@@ -1,4 +1,4 @@
--- `position::locate` meets its contract: a position's answer is the pair of its coordinates' answers.
+-- `locate` answers by the pair of its coordinates' answers, on an allowed shape.
 use mathlib.Core.Bool.{true}
 use mathlib.Core.Path.{_≡_, sym, _∙_}
 use borrow.Author.Tests.{not-true, not-false}
@@ -10,18 +10,36 @@ use borrow.Author.Needs.{needs}
 use Rattle.position.proofs.locate.Statement.{statement}
 use Rattle.position.proofs.locate.Tie as tie
 
-allowed-requires : tie.Need-allowed-requires
-allowed-requires c κs = search needs
+-- ---- stations: from each the one before it
 
-is-allowed : (c : tie.Else1) → allowed (c .before .before .args .s) ≡ true
+abbrev start : tie.Else1 → tie.Start
+start c = c .before .before
+
+abbrev passed : tie.After-cell-of → tie.Else1
+passed c = c .before .before
+
+abbrev first : tie.After-known-told → tie.After-cell-of
+first c = c .before .before .before
+
+abbrev told : tie.After-cell-of2 → tie.After-known-told
+told c = c .before .before
+
+-- ---- what is known there
+
+is-allowed : (c : tie.Else1) → allowed (start c .args .s) ≡ true
 is-allowed c = sym (c .before .allowed .ensures) ∙ not-false _ (c .if1 .left)
 
 -- the coordinates' answers
-west : (c : tie.After-cell-of) → coordinateOn (width (c .before .before .before .before .args .s)) (c .before .before .before .before .args .p .x) ≡ c .cell-of .result
+west : (c : tie.After-cell-of) → let at = start (passed c) .args in coordinateOn (width (at .s)) (at .p .x) ≡ c .cell-of .result
 west c = rw (← c .before .width .ensures .is) (sym (c .cell-of .ensures))
 
-south : (c : tie.After-cell-of2) → coordinateOn (height (c .before .before .before .before .before .before .before .before .before .args .s)) (c .before .before .before .before .before .before .before .before .before .args .p .y) ≡ c .cell-of2 .result
+south : (c : tie.After-cell-of2) → let at = start (passed (first (told c))) .args in coordinateOn (height (at .s)) (at .p .y) ≡ c .cell-of2 .result
 south c = rw (← c .before .height .ensures .is) (sym (c .cell-of2 .ensures))
+
+-- ---- needs
+
+allowed-requires : tie.Need-allowed-requires
+allowed-requires c κs = search needs
 
 returns : tie.Need-returns
 returns c = sym (no-town _ _ (sym (c .before .allowed .ensures) ∙ not-true _ (c .if1 .taken)))
@@ -39,10 +57,10 @@ enum-told : tie.Need-enum-told
 enum-told c = search needs
 
 returns-2 : tie.Need-returns-2
-returns-2 c = rw (by-pair _ _ (is-allowed (c .before .before .before .before)), west (c .before .before), c .enum-told .given .1)
+returns-2 c = let x = c .before .before in rw (by-pair _ _ (is-allowed (passed x)), west x, c .enum-told .given .1)
 
 height-requires : tie.Need-height-requires
-height-requires c κs = allowed→ _ (is-allowed (c .before .before .before .before .before))
+height-requires c κs = allowed→ _ (is-allowed (passed (first c)))
 
 cell-of-requires-2 : tie.Need-cell-of-requires-2
 cell-of-requires-2 c κs = search needs
@@ -54,10 +72,18 @@ enum-told-2 : tie.Need-enum-told-2
 enum-told-2 c = search needs
 
 returns-3 : tie.Need-returns-3
-returns-3 c = rw (by-pair _ _ (is-allowed (c .before .before .before .before .before .before .before .before .before)), west (c .before .before .before .before .before .before .before), south (c .before .before), c .before .before .before .before .before .column .given .1, c .enum-told2 .given .1)
+returns-3 c =
+    let y = c .before .before in
+    let column = told y in
+    let x = first column in
+    rw (by-pair _ _ (is-allowed (passed x)), west x, south y, column .before .column .given .1, c .enum-told2 .given .1)
 
 returns-4 : tie.Need-returns-4
-returns-4 c = rw (by-pair _ _ (is-allowed (c .before .before .before .before .before .before .before .before .before .before)), west (c .before .before .before .before .before .before .before .before), south (c .before .before .before), c .before .before .before .before .before .before .column .given .1, c .before .row .given .1)
+returns-4 c =
+    let y = c .before .before .before in
+    let column = told y in
+    let x = first column in
+    rw (by-pair _ _ (is-allowed (passed x)), west x, south y, column .before .column .given .1, c .before .row .given .1)
 
 pub locate-spec : {M : Type 1} → statement M
 locate-spec =

@@ -1,3 +1,4 @@
+-- `lines` stays within the script, and each line keeps the length of every table that it is lent.
 use Prim.Native.Nat.{_-_}
 use mathlib.Core.Path.{_≡_, refl, _∙_}
 use lib.ListN.{length}
@@ -10,6 +11,16 @@ Inv-loop head zones₀ cars₀ spots₀ starts₀ entries₀ rosters₀ script m
 
 abbrev μ-loop : tie.MeasureT-loop
 μ-loop head zones₀ cars₀ spots₀ starts₀ entries₀ rosters₀ script many i₀ zones cars spots starts entries rosters i = many - i
+
+-- ---- stations: from each the one before it
+
+abbrev turn : tie.After-line Inv-loop μ-loop → tie.In-loop Inv-loop μ-loop
+turn c = c .before .before .before .before .before .before .before .before .before .before .before .before .before
+
+abbrev played : tie.After-slice-known12 Inv-loop μ-loop → tie.After-line Inv-loop μ-loop
+played c = c .before .before .before .before .before .before .before .before .before .before .before .before
+
+-- ---- needs
 
 loop-holds : tie.Need-loop-holds Inv-loop μ-loop
 loop-holds c = (refl, (refl, (refl, (refl, (refl, refl)))))
@@ -72,13 +83,17 @@ line-requires : tie.Need-line-requires Inv-loop μ-loop
 line-requires c κs = search needs
 
 add-i : tie.Need-add-i Inv-loop μ-loop
-add-i c = let h = c .before .before .before .before .before .before .before .before .before .before .before .before .before .before .before .before .before .before .before .before .before .before .before .before .before .loop-test .taken in let g = c .before .before .before .before .before .before .before .before .before .before .before .before .before .before .before .before .before .before .before .before .before .before .before .before .before .before .before in search needs
+add-i c = let more = turn (played c) .loop-test .taken in let lent = turn (played c) .before .before in search needs
 
 loop-less : tie.Need-loop-less Inv-loop μ-loop
 loop-less c = search needs
 
 loop-again : tie.Need-loop-again Inv-loop μ-loop
-loop-again c = (c .before .before .before .before .before .before .before .before .before .before .before .before .line .kept .1 .0 ∙ c .before .before .before .before .before .before .before .before .before .before .before .before .before .before .before .before .before .before .before .before .before .before .before .before .before .before .loop .inv .0, (c .before .before .before .before .before .before .before .before .before .before .before .before .line .kept .1 .1 .0 ∙ c .before .before .before .before .before .before .before .before .before .before .before .before .before .before .before .before .before .before .before .before .before .before .before .before .before .before .loop .inv .1 .0, (c .before .before .before .before .before .before .before .before .before .before .before .before .line .kept .1 .1 .1 .0 ∙ c .before .before .before .before .before .before .before .before .before .before .before .before .before .before .before .before .before .before .before .before .before .before .before .before .before .before .loop .inv .1 .1 .0, (c .before .before .before .before .before .before .before .before .before .before .before .before .line .kept .1 .1 .1 .1 .0 ∙ c .before .before .before .before .before .before .before .before .before .before .before .before .before .before .before .before .before .before .before .before .before .before .before .before .before .before .loop .inv .1 .1 .1 .0, (c .before .before .before .before .before .before .before .before .before .before .before .before .line .kept .1 .1 .1 .1 .1 .0 ∙ c .before .before .before .before .before .before .before .before .before .before .before .before .before .before .before .before .before .before .before .before .before .before .before .before .before .before .loop .inv .1 .1 .1 .1 .0, c .before .before .before .before .before .before .before .before .before .before .before .before .line .kept .1 .1 .1 .1 .1 .1 .0 ∙ c .before .before .before .before .before .before .before .before .before .before .before .before .before .before .before .before .before .before .before .before .before .before .before .before .before .before .loop .inv .1 .1 .1 .1 .1)))))
+loop-again c =
+    let line = played c in
+    let kept = line .line .kept .1 in
+    let was = turn line .before .loop .inv in
+    (kept .0 ∙ was .0, (kept .1 .0 ∙ was .1 .0, (kept .1 .1 .0 ∙ was .1 .1 .0, (kept .1 .1 .1 .0 ∙ was .1 .1 .1 .0, (kept .1 .1 .1 .1 .0 ∙ was .1 .1 .1 .1 .0, kept .1 .1 .1 .1 .1 .0 ∙ was .1 .1 .1 .1 .1)))))
 
 same-length : tie.Need-same-length Inv-loop μ-loop
 same-length c = c .before .loop .inv .0

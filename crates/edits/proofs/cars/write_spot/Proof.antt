@@ -1,6 +1,7 @@
+-- `write_spot` stores a car's two floats, one after the other.
 use native.Mathlib.Omega.{arith}
 use lib.ListN.{length-set}
-use Rattle.edits.specs.CarLaws.{spot-stored}
+use Rattle.edits.specs.SpotLaws.{spot-stored}
 use borrow.Author.Needs.{needs}
 use Rattle.edits.proofs.cars.write_spot.Statement.{statement}
 use Rattle.edits.proofs.cars.write_spot.Tie as tie

@@ -1,9 +1,16 @@
+-- `drop_keys` packs the keys of other zones, and writes free marks after them.
 use native.Mathlib.Omega.{arith}
 use Rattle.edits.specs.DropLaws.{drop-fills}
 use borrow.Author.Needs.{needs}
-use borrow.Author.Needs.{needs}
 use Rattle.edits.proofs.entries.drop_keys.Statement.{statement}
 use Rattle.edits.proofs.entries.drop_keys.Tie as tie
+
+-- ---- stations: from each the one before it
+
+abbrev packed : tie.After-fill-words → tie.After-pack-keys
+packed c = c .before .before .before .before .before .before
+
+-- ---- needs
 
 pack-keys-requires : tie.Need-pack-keys-requires
 pack-keys-requires c κs = search needs
@@ -30,7 +37,7 @@ same-length-2 : tie.Need-same-length-2
 same-length-2 c = search needs
 
 returns : tie.Need-returns
-returns c = let k = c .before .before .before .before .before .before .before .before .pack-keys in drop-fills (k .ensures) (omega arith) _ (c .before .before .fill-words .ensures)
+returns c = drop-fills (packed (c .before .before) .pack-keys .ensures) (omega arith) _ (c .before .before .fill-words .ensures)
 
 pub drop-keys-spec : {M : Type 1} → statement M
 drop-keys-spec =

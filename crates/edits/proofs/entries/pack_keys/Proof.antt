@@ -1,3 +1,4 @@
+-- `pack_keys` moves the keys of other zones to the front and the starts after each key of zone z down by one more.
 use Prim.Native.Nat.{_-_}
 use native.Mathlib.Omega.{arith}
 use lib.ListN.{length}
@@ -11,6 +12,16 @@ Inv-loop starts₀ entries₀ z many p₀ by₀ kept₀ i₀ starts entries p by
 
 abbrev μ-loop : tie.MeasureT-loop
 μ-loop starts₀ entries₀ z many p₀ by₀ kept₀ i₀ starts entries p by kept i = length entries₀ - i
+
+-- ---- stations: from each the one before it
+
+abbrev turn : tie.Else1 Inv-loop μ-loop → tie.At-loop Inv-loop μ-loop
+turn c = c .before .before .before
+
+abbrev shifted : tie.After-wrapping-sub-u32 Inv-loop μ-loop → tie.After-shift-to Inv-loop μ-loop
+shifted c = c .before .before .before
+
+-- ---- needs
 
 loop-holds : tie.Need-loop-holds Inv-loop μ-loop
 loop-holds c = drop-begins _ _ _
@@ -52,7 +63,10 @@ loop-less-2 : tie.Need-loop-less-2 Inv-loop μ-loop
 loop-less-2 c = search needs
 
 loop-again-2 : tie.Need-loop-again-2 Inv-loop μ-loop
-loop-again-2 c = drop-skips (c .before .before .before .before .before .before .before .before .before .loop .inv) (omega arith) (c .before .before .before .before .before .before .if1 .left) (c .before .before .before .before .place-after .ensures) (c .before .before .before .shift-to .ensures) (omega arith) (c .wrapping-sub-u32 .ensures)
+loop-again-2 c =
+    let m = shifted c in
+    let z = m .before .before .before in
+    drop-skips (turn z .loop .inv) (omega arith) (z .if1 .left) (m .before .place-after .ensures) (m .shift-to .ensures) (omega arith) (c .wrapping-sub-u32 .ensures)
 
 shift-to-requires-2 : tie.Need-shift-to-requires-2 Inv-loop μ-loop
 shift-to-requires-2 c κs = search needs

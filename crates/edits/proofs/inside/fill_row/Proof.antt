@@ -1,7 +1,15 @@
+-- `fill_row` marks a zone's row: the part lent is the row.
 use Rattle.edits.specs.InsideLaws.{row-marked}
 use borrow.Author.Needs.{needs}
 use Rattle.edits.proofs.inside.fill_row.Statement.{statement}
 use Rattle.edits.proofs.inside.fill_row.Tie as tie
+
+-- ---- stations: from each the one before it
+
+abbrev start : tie.After-mark-cars → tie.Start
+start c = c .before .before .before .before .before
+
+-- ---- needs
 
 mul-from : tie.Need-mul-from
 mul-from c = search needs
@@ -25,7 +33,7 @@ same-length : tie.Need-same-length
 same-length c = search needs
 
 returns : tie.Need-returns
-returns c = row-marked (c .before .before .before .before .before .before .before .pre .1 .0) _ (c .before .before .mark-cars .ensures)
+returns c = let m = c .before .before in row-marked (start m .pre .1 .0) _ (m .mark-cars .ensures)
 
 pub fill-row-spec : {M : Type 1} → statement M
 fill-row-spec =

@@ -1,3 +1,4 @@
+-- `mark_cars` sets the bytes of a row car by car, and counts those that are in the rectangle.
 use Prim.Native.Nat.{_-_}
 use native.Mathlib.Omega.{arith}
 use Rattle.edits.specs.InsideLaws.{Marking, mark-begins, mark-turns, mark-ends}
@@ -14,8 +15,8 @@ abbrev μ-loop : tie.MeasureT-loop
 loop-holds : tie.Need-loop-holds Inv-loop μ-loop
 loop-holds c = mark-begins _ _ _ _ _
 
-car-in-requires : tie.Need-car-in-requires Inv-loop μ-loop
-car-in-requires c κs = search needs
+car-within-requires : tie.Need-car-within-requires Inv-loop μ-loop
+car-within-requires c κs = search needs
 
 byte-of-requires : tie.Need-byte-of-requires Inv-loop μ-loop
 byte-of-requires c κs = search needs
@@ -36,7 +37,7 @@ loop-less : tie.Need-loop-less Inv-loop μ-loop
 loop-less c = search needs
 
 loop-again : tie.Need-loop-again Inv-loop μ-loop
-loop-again c = mark-turns (c .before .before .before .loop .inv) (omega arith) _ (c .before .car-in .ensures) _ (c .byte-of .ensures)
+loop-again c = mark-turns (c .before .before .before .loop .inv) (omega arith) _ (c .before .car-within .ensures) _ (c .byte-of .ensures)
 
 same-length : tie.Need-same-length Inv-loop μ-loop
 same-length c = c .before .loop .inv .set .long
@@ -51,7 +52,7 @@ mark-cars-spec =
     Inv-loop
     μ-loop
     loop-holds
-    car-in-requires
+    car-within-requires
     byte-of-requires
     slice-write-row
     cast-inside

@@ -1,10 +1,26 @@
+-- `add_keys` adds a zone's keys: written, merged, the starts after them raised, those under them counted anew.
 use native.Mathlib.Omega.{arith}
 use Rattle.order.specs.BufferLaws.{count-front}
 use Rattle.edits.specs.KeyLaws.{merge-room, starts-few, front-few, keys-added}
 use borrow.Author.Needs.{needs}
-use borrow.Author.Needs.{needs}
 use Rattle.edits.proofs.keys.add_keys.Statement.{statement}
 use Rattle.edits.proofs.keys.add_keys.Tie as tie
+
+-- ---- stations: from each the one before it
+
+abbrev start : tie.After-write-keys → tie.Start
+start c = c .before .before .before .before
+
+abbrev written : tie.After-merge-keys → tie.After-write-keys
+written c = c .before .before .before .before .before
+
+abbrev merged : tie.After-raise-starts → tie.After-merge-keys
+merged c = c .before .before .before .before
+
+abbrev raised : tie.After-set-starts → tie.After-raise-starts
+raised c = c .before .before .before .before .before
+
+-- ---- needs
 
 write-keys-requires : tie.Need-write-keys-requires
 write-keys-requires c κs = search needs
@@ -13,22 +29,28 @@ slice-reshare-prefix-merge-keys : tie.Need-slice-reshare-prefix-merge-keys
 slice-reshare-prefix-merge-keys c = search needs
 
 slice-aggregate-merge-keys : tie.Need-slice-aggregate-merge-keys
-slice-aggregate-merge-keys c = count-front _ _ (omega (arith, c .before .before .before .before .write-keys .ensures .within, c .before .before .before .before .write-keys .kept))
+slice-aggregate-merge-keys c = let w = c .before .before .before .before in count-front _ _ (omega (arith, w .write-keys .ensures .within, w .write-keys .kept))
 
 merge-keys-requires : tie.Need-merge-keys-requires
-merge-keys-requires c κs = merge-room (c .before .before .before .before .before .before .before .before .pre) (c .before .before .before .before .write-keys .ensures)
+merge-keys-requires c κs = let w = c .before .before .before .before in merge-room (start w .pre) (w .write-keys .ensures)
 
 raise-starts-requires : tie.Need-raise-starts-requires
-raise-starts-requires c κs = (omega (arith, c .before .before .before .before .before .before .before .before .write-keys .ensures .within, c .before .before .before .before .before .before .before .before .write-keys .kept .1 .1 .1 .0), omega (arith, starts-few (c .before .before .before .before .before .before .before .before .before .before .before .before .pre), c .before .before .before .before .before .before .before .before .write-keys .kept .1 .1 .1 .0))
+raise-starts-requires c κs = let w = written (c .before .before .before) in (omega (arith, w .write-keys .ensures .within, w .write-keys .kept .1 .1 .1 .0), omega (arith, starts-few (start w .pre), w .write-keys .kept .1 .1 .1 .0))
 
 slice-relend-prefix-set-starts : tie.Need-slice-relend-prefix-set-starts
 slice-relend-prefix-set-starts c = search needs
 
 slice-aggregate-set-starts : tie.Need-slice-aggregate-set-starts
-slice-aggregate-set-starts c = count-front _ _ (omega (arith, c .before .before .before .before .before .before .before .before .before .before .before .before .write-keys .ensures .within, c .before .before .before .before .before .before .before .before .before .before .before .before .write-keys .kept .1 .1 .1 .0, c .before .before .before .raise-starts .ensures .long))
+slice-aggregate-set-starts c =
+    let r = c .before .before .before in
+    let w = written (merged r) in
+    count-front _ _ (omega (arith, w .write-keys .ensures .within, w .write-keys .kept .1 .1 .1 .0, r .raise-starts .ensures .long))
 
 set-starts-requires : tie.Need-set-starts-requires
-set-starts-requires c κs = (front-few (c .before .before .before .before .before .before .before .before .before .before .before .before .before .before .before .before .before .pre) (c .before .before .before .before .before .before .before .before .before .before .before .before .before .write-keys .ensures) _, omega (arith, c .before .before .before .before .before .before .before .before .before .before .before .before .before .before .before .before .before .pre .few, c .before .before .before .before .before .before .before .before .merge-keys .kept .0))
+set-starts-requires c κs =
+    let m = merged (c .before .before .before .before) in
+    let w = written m in
+    (front-few (start w .pre) (w .write-keys .ensures) _, omega (arith, start w .pre .few, m .merge-keys .kept .0))
 
 same-length : tie.Need-same-length
 same-length c = search needs
@@ -37,7 +59,11 @@ same-length-2 : tie.Need-same-length-2
 same-length-2 c = search needs
 
 returns : tie.Need-returns
-returns c = keys-added (c .before .before .before .before .before .before .before .before .before .before .before .before .before .before .before .before .before .before .before .before .pre) (c .before .before .before .before .before .before .before .before .before .before .before .before .before .before .before .before .write-keys .ensures) _ _ _ (c .before .before .before .before .before .before .before .before .before .before .before .merge-keys .ensures) (c .before .before .before .before .before .before .before .raise-starts .ensures) (c .before .before .set-starts .ensures) (search needs)
+returns c =
+    let r = raised (c .before .before) in
+    let m = merged r in
+    let w = written m in
+    keys-added (start w .pre) (w .write-keys .ensures) _ _ _ (m .merge-keys .ensures) (r .raise-starts .ensures) (c .before .before .set-starts .ensures) (search needs)
 
 pub add-keys-spec : {M : Type 1} → statement M
 add-keys-spec =

@@ -1,3 +1,4 @@
+-- `code_key` is the key of a square's place: it fits in 32 bits.
 use native.Mathlib.Omega.{arith}
 use Rattle.squares.specs.ShapeLaws.{squares-few}
 use borrow.Author.Needs.{needs}

@@ -1,3 +1,4 @@
+-- `key_codes` turns squares into keys one by one.
 use Prim.Native.Nat.{_-_}
 use mathlib.Core.Path.{ap, _∙_}
 use native.Mathlib.Omega.{arith}

@@ -1,3 +1,4 @@
+-- `merge_keys` merges from the back: what is merged stands after what is still to be merged.
 use Prim.Native.Nat.{_+_, _<_}
 use mathlib.Core.Path.{sym, _∙_}
 use native.Mathlib.Omega.{arith}
@@ -11,6 +12,19 @@ Inv-loop entries₀ u keys i₀ j₀ entries i j = Merging entries₀ keys u ent
 
 abbrev μ-loop : tie.MeasureT-loop
 μ-loop entries₀ u keys i₀ j₀ entries i j = i + j
+
+-- ---- stations: from each the one before it
+
+abbrev turn : tie.After-ends-below Inv-loop μ-loop → tie.At-loop Inv-loop μ-loop
+turn c = c .before .before .before .before .before
+
+-- ---- what is known there
+
+-- where the last entry is not below the key there is one left
+some : (c : tie.Else1 Inv-loop μ-loop) → 0 < turn (c .before) .loop .i
+some c = merge-some (turn (c .before) .loop .inv) _ (sym (c .before .ends-below .ensures) ∙ c .if1 .left)
+
+-- ---- needs
 
 loop-holds : tie.Need-loop-holds Inv-loop μ-loop
 loop-holds c = merge-begins _ _ _ (search needs)
@@ -46,10 +60,7 @@ loop-less : tie.Need-loop-less Inv-loop μ-loop
 loop-less c = search needs
 
 loop-again : tie.Need-loop-again Inv-loop μ-loop
-loop-again c = merge-new (c .before .before .before .before .before .before .loop .inv) (omega arith) _ (c .before .before .wide .ensures) (sym (c .before .ends-below .ensures) ∙ c .if1 .taken)
-
-some : (c : tie.Else1 Inv-loop μ-loop) → 0 < c .before .before .before .before .before .before .loop .i
-some c = merge-some (c .before .before .before .before .before .before .loop .inv) _ (sym (c .before .ends-below .ensures) ∙ c .if1 .left)
+loop-again c = merge-new (turn (c .before) .loop .inv) (omega arith) _ (c .before .before .wide .ensures) (sym (c .before .ends-below .ensures) ∙ c .if1 .taken)
 
 sub-i : tie.Need-sub-i Inv-loop μ-loop
 sub-i c = some c
@@ -73,7 +84,7 @@ loop-less-2 : tie.Need-loop-less-2 Inv-loop μ-loop
 loop-less-2 c = omega (arith, some (c .before))
 
 loop-again-2 : tie.Need-loop-again-2 Inv-loop μ-loop
-loop-again-2 c = merge-old (c .before .before .before .before .before .before .before .loop .inv) (omega arith) _ (c .before .before .before .wide .ensures) (sym (c .before .before .ends-below .ensures) ∙ c .before .if1 .left)
+loop-again-2 c = let e = c .before in merge-old (turn (e .before) .loop .inv) (omega arith) _ (e .before .before .wide .ensures) (sym (e .before .ends-below .ensures) ∙ e .if1 .left)
 
 same-length : tie.Need-same-length Inv-loop μ-loop
 same-length c = c .before .loop .inv .long

@@ -1,3 +1,4 @@
+-- `byte_at` is the place of a car's byte: the product and the sum fit.
 use native.Mathlib.Omega.{arith}
 use native.Mathlib.Nat.{mul-le-mul, le-refl}
 use borrow.Author.Needs.{needs}

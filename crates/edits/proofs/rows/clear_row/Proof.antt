@@ -1,3 +1,4 @@
+-- `clear_row` sets a zone's row to 0: the part lent is the row.
 use Rattle.edits.specs.RosterLaws.{row-filled}
 use borrow.Author.Needs.{needs}
 use Rattle.edits.proofs.rows.clear_row.Statement.{statement}

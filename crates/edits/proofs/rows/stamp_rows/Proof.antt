@@ -1,16 +1,26 @@
+-- `stamp_rows` sets a car's byte zone by zone: what is left of the list is still to be set.
 use Prim.Native.Nat.{_-_}
 use lib.ListN.{length}
 use Rattle.edits.specs.StampLaws.{Stamping, stamp-begins, stamp-turns, stamp-ends}
 use borrow.Author.Needs.{needs}
 use Rattle.edits.proofs.rows.stamp_rows.Statement.{statement}
 use Rattle.edits.proofs.rows.stamp_rows.Tie as tie
-use Rattle.edits.proofs.rows.byte_at.Reads as byte-at-reads
 
 abbrev Inv-loop : tie.InvT-loop
 Inv-loop rosters₀ zones many c v i₀ rosters i = Stamping rosters₀ zones many c v rosters i
 
 abbrev μ-loop : tie.MeasureT-loop
 μ-loop rosters₀ zones many c v i₀ rosters i = length zones - i
+
+-- ---- stations: from each the one before it
+
+abbrev turn : tie.After-byte-at Inv-loop μ-loop → tie.In-loop Inv-loop μ-loop
+turn c = c .before .before .before
+
+abbrev stored : tie.After-slice-known2 Inv-loop μ-loop → tie.After-byte-at Inv-loop μ-loop
+stored c = c .before .before .before
+
+-- ---- needs
 
 loop-holds : tie.Need-loop-holds Inv-loop μ-loop
 loop-holds c = stamp-begins _ _ _ _ _
@@ -34,7 +44,9 @@ loop-less : tie.Need-loop-less Inv-loop μ-loop
 loop-less c = search needs
 
 loop-again : tie.Need-loop-again Inv-loop μ-loop
-loop-again c = stamp-turns _ _ _ _ _ (c .before .before .before .before .before .before .before .loop .inv) (c .before .before .before .before .before .before .loop-test .taken) (c .before .before .before .byte-at .ensures) (c .before .before .store-byte .ensures)
+loop-again c =
+    let b = stored c in
+    stamp-turns _ _ _ _ _ (turn b .before .loop .inv) (turn b .loop-test .taken) (b .byte-at .ensures) (c .before .before .store-byte .ensures)
 
 same-length : tie.Need-same-length Inv-loop μ-loop
 same-length c = c .before .loop .inv .long

@@ -1,3 +1,4 @@
+-- `shift_to` moves the numbers of one range by v: the loop passes them one by one.
 use Prim.Native.Nat.{_-_}
 use native.Mathlib.Omega.{arith}
 use Rattle.edits.specs.Shift.{Shifting}

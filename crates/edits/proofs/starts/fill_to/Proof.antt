@@ -1,3 +1,4 @@
+-- `fill_to` sets the numbers of one range, where the range has any.
 use Rattle.edits.specs.RankLaws.{fill-none, fill-part}
 use borrow.Author.Needs.{needs}
 use Rattle.edits.proofs.starts.fill_to.Statement.{statement}

@@ -1,3 +1,4 @@
+-- `place_after` is the place after a key's own, or the end.
 use Rattle.edits.specs.RankLaws.{reach-most, reach-own}
 use borrow.Author.Needs.{needs}
 use Rattle.edits.proofs.starts.place_after.Statement.{statement}

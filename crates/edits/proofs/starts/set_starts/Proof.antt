@@ -1,3 +1,4 @@
+-- `set_starts` counts the keys before each place in one pass: each entry sets the places up to its own.
 use Prim.Native.Nat.{_-_}
 use native.Mathlib.Omega.{arith}
 use lib.ListN.{length}
@@ -11,6 +12,16 @@ Inv-loop starts₀ entries many p₀ i₀ starts p i = Ranking starts₀ entries
 
 abbrev μ-loop : tie.MeasureT-loop
 μ-loop starts₀ entries many p₀ i₀ starts p i = length entries - i
+
+-- ---- stations: from each the one before it
+
+abbrev turn : tie.After-place-after Inv-loop μ-loop → tie.At-loop Inv-loop μ-loop
+turn c = c .before .before .before .before
+
+abbrev filled : tie.After-slice-known2 Inv-loop μ-loop → tie.After-place-after Inv-loop μ-loop
+filled c = c .before .before .before .before
+
+-- ---- needs
 
 loop-holds : tie.Need-loop-holds Inv-loop μ-loop
 loop-holds c = rank-begins _ _
@@ -34,7 +45,7 @@ cast-fill-to : tie.Need-cast-fill-to Inv-loop μ-loop
 cast-fill-to c = search needs
 
 fill-to-requires : tie.Need-fill-to-requires Inv-loop μ-loop
-fill-to-requires c κs = (omega (arith, c .before .before .before .before .before .loop .inv .within, c .before .before .before .before .before .loop .inv .long), omega (arith, c .before .place-after .ensures .most, c .before .before .before .before .before .loop .inv .long))
+fill-to-requires c κs = let l = turn (c .before) in (omega (arith, l .loop .inv .within, l .loop .inv .long), omega (arith, c .before .place-after .ensures .most, l .loop .inv .long))
 
 add-i : tie.Need-add-i Inv-loop μ-loop
 add-i c = search needs
@@ -43,7 +54,7 @@ loop-less : tie.Need-loop-less Inv-loop μ-loop
 loop-less c = search needs
 
 loop-again : tie.Need-loop-again Inv-loop μ-loop
-loop-again c = rank-turns (c .before .before .before .before .before .before .before .before .loop .inv) (omega arith) (c .before .before .before .before .place-after .ensures) (c .before .before .fill-to .ensures)
+loop-again c = let a = filled c in rank-turns (turn a .loop .inv) (omega arith) (a .place-after .ensures) (c .before .before .fill-to .ensures)
 
 cast-fill-to-2 : tie.Need-cast-fill-to-2 Inv-loop μ-loop
 cast-fill-to-2 c = search needs

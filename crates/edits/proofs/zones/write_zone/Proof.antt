@@ -1,3 +1,4 @@
+-- `write_zone` stores a rectangle's four numbers, one after the other.
 use native.Mathlib.Omega.{arith}
 use lib.ListN.{length-set}
 use Rattle.edits.specs.ZoneLaws.{zone-stored}

@@ -1,3 +1,4 @@
+-- `put_text` puts one digit, or the digits of a tenth and then the last one. The number falls with each call.
 use Prim.Native.Nat.{ℕ, _<_}
 use native.Mathlib.Omega.{arith}
 use borrow.Fn.Kinds.{In}
@@ -20,111 +21,63 @@ abbrev put-text-below : ℕ → In 1 put-text-kinds.ps
 put-text-below t =
     and 1 put-text-kinds.ps (falls 1 put-text-kinds.ps _<_ μ-put-text t) put-text.Pre
 
-put-text-cast-put-byte : (t : ℕ) → put-text-lts.Need-cast-put-byte (
-  put-byte-reads.Asked,
-  put-byte-reads.Learnt,
-  put-text-below t,
-  put-text.Post,
-) (put-text-at t) put-text.Post
-put-text-cast-put-byte t c = omega arith
+abbrev calls : ℕ → put-text-lts.Claims
+calls t = (put-byte-reads.Asked, put-byte-reads.Learnt, put-text-below t, put-text.Post)
 
-put-text-add-put-byte : (t : ℕ) → put-text-lts.Need-add-put-byte (
-  put-byte-reads.Asked,
-  put-byte-reads.Learnt,
-  put-text-below t,
-  put-text.Post,
-) (put-text-at t) put-text.Post
-put-text-add-put-byte t c = omega arith
+module _ (t : ℕ) where
+  -- ---- stations: from each the one before it
 
-put-text-put-byte-requires : (t : ℕ) → put-text-lts.Need-put-byte-requires (
-  put-byte-reads.Asked,
-  put-byte-reads.Learnt,
-  put-text-below t,
-  put-text.Post,
-) (put-text-at t) put-text.Post
-put-text-put-byte-requires t c κs = omega (arith, c .before .before .before .pre .1)
+  abbrev start : put-text-lts.After-put-text (calls t) (put-text-at t) put-text.Post → put-text-lts.Start (calls t) (put-text-at t) put-text.Post
+  start c = c .before .before .before .before
 
-put-text-same-length : (t : ℕ) → put-text-lts.Need-same-length (
-  put-byte-reads.Asked,
-  put-byte-reads.Learnt,
-  put-text-below t,
-  put-text.Post,
-) (put-text-at t) put-text.Post
-put-text-same-length t c = puts-room (c .before .before .put-byte .ensures)
+  abbrev next : put-text-lts.After-put-byte2 (calls t) (put-text-at t) put-text.Post → put-text-lts.After-put-text (calls t) (put-text-at t) put-text.Post
+  next c = c .before .before .before .before
 
-put-text-returns : (t : ℕ) → put-text-lts.Need-returns (
-  put-byte-reads.Asked,
-  put-byte-reads.Learnt,
-  put-text-below t,
-  put-text.Post,
-) (put-text-at t) put-text.Post
-put-text-returns t c = text-last (omega arith) (c .before .before .put-byte .ensures)
+  -- ---- needs
 
-put-text-put-text-requires : (t : ℕ) → put-text-lts.Need-put-text-requires (
-  put-byte-reads.Asked,
-  put-byte-reads.Learnt,
-  put-text-below t,
-  put-text.Post,
-) (put-text-at t) put-text.Post
-put-text-put-text-requires t c κs = (omega (arith, c .before .before .before .pre .0), c .before .before .before .pre .1)
+  cast-put-byte : put-text-lts.Need-cast-put-byte (calls t) (put-text-at t) put-text.Post
+  cast-put-byte c = omega arith
 
-put-text-cast-put-byte-2 : (t : ℕ) → put-text-lts.Need-cast-put-byte-2 (
-  put-byte-reads.Asked,
-  put-byte-reads.Learnt,
-  put-text-below t,
-  put-text.Post,
-) (put-text-at t) put-text.Post
-put-text-cast-put-byte-2 t c = omega arith
+  add-put-byte : put-text-lts.Need-add-put-byte (calls t) (put-text-at t) put-text.Post
+  add-put-byte c = omega arith
 
-put-text-add-put-byte-2 : (t : ℕ) → put-text-lts.Need-add-put-byte-2 (
-  put-byte-reads.Asked,
-  put-byte-reads.Learnt,
-  put-text-below t,
-  put-text.Post,
-) (put-text-at t) put-text.Post
-put-text-add-put-byte-2 t c = omega arith
+  put-byte-requires : put-text-lts.Need-put-byte-requires (calls t) (put-text-at t) put-text.Post
+  put-byte-requires c κs = omega (arith, c .before .before .before .pre .1)
 
-put-text-put-byte-requires-2 : (t : ℕ) → put-text-lts.Need-put-byte-requires-2 (
-  put-byte-reads.Asked,
-  put-byte-reads.Learnt,
-  put-text-below t,
-  put-text.Post,
-) (put-text-at t) put-text.Post
-put-text-put-byte-requires-2 t c κs = omega (arith, c .before .before .before .put-text .ensures .most, c .before .before .before .before .before .before .before .pre .1)
+  same-length : put-text-lts.Need-same-length (calls t) (put-text-at t) put-text.Post
+  same-length c = puts-room (c .before .before .put-byte .ensures)
 
-put-text-same-length-2 : (t : ℕ) → put-text-lts.Need-same-length-2 (
-  put-byte-reads.Asked,
-  put-byte-reads.Learnt,
-  put-text-below t,
-  put-text.Post,
-) (put-text-at t) put-text.Post
-put-text-same-length-2 t c = puts-room (puts-more (c .before .before .before .before .before .before .put-text .ensures) (c .before .before .put-byte2 .ensures))
+  returns : put-text-lts.Need-returns (calls t) (put-text-at t) put-text.Post
+  returns c = text-last (omega arith) (c .before .before .put-byte .ensures)
 
-put-text-returns-2 : (t : ℕ) → put-text-lts.Need-returns-2 (
-  put-byte-reads.Asked,
-  put-byte-reads.Learnt,
-  put-text-below t,
-  put-text.Post,
-) (put-text-at t) put-text.Post
-put-text-returns-2 t c = text-next (omega arith) (omega arith) (c .before .before .before .before .before .before .put-text .ensures) (c .before .before .put-byte2 .ensures)
+  put-text-requires : put-text-lts.Need-put-text-requires (calls t) (put-text-at t) put-text.Post
+  put-text-requires c κs = let at = c .before .before .before in (omega (arith, at .pre .0), at .pre .1)
+
+  cast-put-byte-2 : put-text-lts.Need-cast-put-byte-2 (calls t) (put-text-at t) put-text.Post
+  cast-put-byte-2 c = omega arith
+
+  add-put-byte-2 : put-text-lts.Need-add-put-byte-2 (calls t) (put-text-at t) put-text.Post
+  add-put-byte-2 c = omega arith
+
+  put-byte-requires-2 : put-text-lts.Need-put-byte-requires-2 (calls t) (put-text-at t) put-text.Post
+  put-byte-requires-2 c κs = let others = c .before .before .before in omega (arith, others .put-text .ensures .most, start others .pre .1)
+
+  same-length-2 : put-text-lts.Need-same-length-2 (calls t) (put-text-at t) put-text.Post
+  same-length-2 c = let last = c .before .before in puts-room (puts-more (next last .put-text .ensures) (last .put-byte2 .ensures))
+
+  returns-2 : put-text-lts.Need-returns-2 (calls t) (put-text-at t) put-text.Post
+  returns-2 c = let last = c .before .before in text-next (omega arith) (omega arith) (next last .put-text .ensures) (last .put-byte2 .ensures)
 
 pub +put-text-spec : {M : Type 1} → statement M
-+put-text-spec = close μ-put-text λ t. put-text-lts.spec (
-  put-byte-reads.Asked,
-  put-byte-reads.Learnt,
-  put-text-below t,
-  put-text.Post,
-)
-    (put-text-at t)
-    put-text.Post
-    (put-text-cast-put-byte t)
-    (put-text-add-put-byte t)
-    (put-text-put-byte-requires t)
-    (put-text-same-length t)
-    (put-text-returns t)
-    (put-text-put-text-requires t)
-    (put-text-cast-put-byte-2 t)
-    (put-text-add-put-byte-2 t)
-    (put-text-put-byte-requires-2 t)
-    (put-text-same-length-2 t)
-    (put-text-returns-2 t)
++put-text-spec = close μ-put-text λ t. put-text-lts.spec (calls t) (put-text-at t) put-text.Post
+    (cast-put-byte t)
+    (add-put-byte t)
+    (put-byte-requires t)
+    (same-length t)
+    (returns t)
+    (put-text-requires t)
+    (cast-put-byte-2 t)
+    (add-put-byte-2 t)
+    (put-byte-requires-2 t)
+    (same-length-2 t)
+    (returns-2 t)

@@ -1,8 +1,16 @@
+-- `put_list` puts a dash for an empty list, and else the first member and the others.
 use native.Mathlib.Omega.{arith}
 use Rattle.line.specs.TextLaws.{puts-none, puts-list}
 use borrow.Author.Needs.{needs}
 use Rattle.line.proofs.answers.put_list.Statement.{statement}
 use Rattle.line.proofs.answers.put_list.Tie as tie
+
+-- ---- stations: from each the one before it
+
+abbrev first : tie.After-put-others → tie.After-put-text
+first c = c .before .before .before .before .before
+
+-- ---- needs
 
 put-byte-requires : tie.Need-put-byte-requires
 put-byte-requires c κs = search needs
@@ -35,7 +43,7 @@ same-length-2 : tie.Need-same-length-2
 same-length-2 c = search needs
 
 returns-2 : tie.Need-returns-2
-returns-2 c = puts-list _ (omega arith) (c .before .before .before .before .before .before .before .put-text .ensures) (c .before .before .put-others .ensures)
+returns-2 c = let others = c .before .before in puts-list _ (omega arith) (first others .put-text .ensures) (others .put-others .ensures)
 
 pub put-list-spec : {M : Type 1} → statement M
 put-list-spec =

@@ -1,3 +1,4 @@
+-- `put_members` puts a tab and then the list.
 use native.Mathlib.Omega.{arith}
 use Rattle.line.specs.TextLaws.{puts-more}
 use borrow.Author.Needs.{needs}

@@ -1,3 +1,4 @@
+-- `put_number` puts a byte and then the number's digits.
 use Rattle.line.specs.TextLaws.{puts-more}
 use borrow.Author.Needs.{needs}
 use Rattle.line.proofs.answers.put_number.Statement.{statement}

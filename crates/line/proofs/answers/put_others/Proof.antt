@@ -1,3 +1,4 @@
+-- `put_others` has put i members, each after a comma.
 use Prim.Native.Nat.{_-_}
 use native.Mathlib.Omega.{arith}
 use lib.ListN.{length}

@@ -1,3 +1,4 @@
+-- `field_at` finds nothing past the end of the line, and else ends at the next tab.
 use mathlib.Core.Path.{ap, sym, _∙_}
 use Rattle.line.specs.declared.fields.Field.the-variants.{UpTo}
 use Rattle.line.specs.RecordLaws.{field-missing, field-there}

@@ -1,3 +1,4 @@
+-- `hold` has held i bytes of the part, and stops at 81.
 use Prim.Native.Nat.{_-_}
 use native.Mathlib.Omega.{arith}
 use lib.ListN.{length}

@@ -1,3 +1,4 @@
+-- `digit` tells decimal digits and the letters A to F from the bytes below, between and above them.
 use mathlib.Core.Path.{sym}
 use native.Mathlib.Omega.{arith}
 use Rattle.line.specs.NumberLaws.{digit-low, digit-decimal, digit-between, digit-letter, digit-high}

@@ -1,3 +1,4 @@
+-- `read_coordinate` takes eight digits in base 16.
 use mathlib.Core.Path.{_∙_}
 use Rattle.line.specs.NumberLaws.{coordinate-wrong, coordinate-is}
 use borrow.Author.Needs.{needs}

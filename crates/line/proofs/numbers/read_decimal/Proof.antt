@@ -1,3 +1,4 @@
+-- `read_decimal` tells an empty field, a long one, one that begins with 0 and one past 32 bits from a number.
 use mathlib.Core.Path.{sym, _∙_}
 use native.Mathlib.Omega.{arith}
 use Rattle.line.specs.NumberLaws.{decimal-empty, decimal-long, decimal-zero, decimal-needless, decimal-wrong, decimal-large, decimal-is}

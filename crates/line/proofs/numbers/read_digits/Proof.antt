@@ -1,3 +1,4 @@
+-- `read_digits` has read i digits, and the others give the same number from there.
 use Prim.Native.Nat.{_+_, _-_, _*_, _^_, _<_}
 use native.Mathlib.Omega.{arith}
 use lib.ListN.{length}

@@ -1,3 +1,4 @@
+-- `read_value` goes by the base: 10 is a decimal, any other a coordinate.
 use mathlib.Core.Path.{_∙_}
 use borrow.Author.Tests.{eq-eqb, ne-eqb}
 use borrow.Author.Needs.{needs}

@@ -1,3 +1,4 @@
+-- `form_of` compares the letter with the seven, and past them there are no fields.
 use mathlib.Core.Path.{refl, ap, sym}
 use native.Mathlib.Omega.{arith}
 use Rattle.line.specs.Grammar.{form}

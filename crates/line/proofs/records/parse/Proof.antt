@@ -1,3 +1,4 @@
+-- `parse` refuses a line that is too long or does not begin with one letter, and else reads its record.
 use mathlib.Core.Path.{sym, _∙_}
 use native.Mathlib.Omega.{arith}
 use Rattle.line.specs.RecordLaws.{field-found, first-there, meaning-long, meaning-wrong, meaning-read}

@@ -1,7 +1,8 @@
-use Prim.Native.Nat.{_-_}
+-- `read_record` has read i values, and the next field starts at `at`; a missing field, a wrong one or one too many ends it.
+use Prim.Native.Nat.{_-_, _<_}
 use mathlib.Core.Path.{sym, _∙_}
 use native.Mathlib.Omega.{arith}
-use Rattle.line.specs.RecordLaws.{Gets, Found, field-found, field-none, gets-begin, gets-room, gets-missing, gets-wrong, gets-small, gets-turn, gets-more, gets-end}
+use Rattle.line.specs.RecordLaws.{Gets, Found, field-found, field-none, gets-begin, gets-few, gets-missing, gets-wrong, gets-small, gets-turn, gets-more, gets-end}
 use borrow.Author.Needs.{needs}
 use Rattle.line.proofs.records.read_record.Statement.{statement}
 use Rattle.line.proofs.records.read_record.Tie as tie
@@ -11,6 +12,35 @@ Inv-loop line letter count bases v₀ at₀ i₀ v at i = Gets letter count base
 
 abbrev μ-loop : tie.MeasureT-loop
 μ-loop line letter count bases v₀ at₀ i₀ v at i = count - i
+
+-- ---- stations: from each the one before it
+
+abbrev start : tie.At-loop Inv-loop μ-loop → tie.Start Inv-loop μ-loop
+start c = c .before .before .before .before
+
+abbrev turn : tie.After-read-field Inv-loop μ-loop → tie.At-loop Inv-loop μ-loop
+turn c = c .before .before
+
+abbrev sought : tie.After-known-told Inv-loop μ-loop → tie.After-read-field Inv-loop μ-loop
+sought c = c .before .before .before
+
+abbrev ended : tie.After-read-value Inv-loop μ-loop → tie.After-known-told Inv-loop μ-loop
+ended c = c .before .before
+
+abbrev valued : tie.After-known-told2 Inv-loop μ-loop → tie.After-read-value Inv-loop μ-loop
+valued c = c .before .before .before
+
+-- ---- what is known there
+
+-- there is a base for the field, and a place for its value
+few : (c : tie.After-read-field Inv-loop μ-loop) → turn c .loop .i < 5
+few c = gets-few (turn c .loop .inv) (c .before .loop-test .taken)
+
+-- the field that was found
+found : (c : tie.After-known-told Inv-loop μ-loop) → let begun = turn (sought c) in Found (start begun .args .line .now) (begun .loop .at) (c .before .end .given .0 .0)
+found c = field-found _ _ _ (sym (sought c .read-field .ensures) ∙ c .before .end .given .1)
+
+-- ---- needs
 
 form-of-requires : tie.Need-form-of-requires Inv-loop μ-loop
 form-of-requires c κs = search needs
@@ -28,11 +58,7 @@ enum-told : tie.Need-enum-told Inv-loop μ-loop
 enum-told c = search needs
 
 returns : tie.Need-returns Inv-loop μ-loop
-returns c = gets-missing (c .before .before .before .before .loop .inv) (omega arith) (field-none _ _ (sym (c .before .before .read-field .ensures) ∙ c .enum-told .given .1))
-
--- the field that was found
-found : (c : tie.After-known-told Inv-loop μ-loop) → Found (c .before .before .before .before .before .before .before .before .before .args .line .now) (c .before .before .before .before .before .loop .at) (c .before .end .given .0 .0)
-found c = field-found _ _ _ (sym (c .before .before .before .read-field .ensures) ∙ c .before .end .given .1)
+returns c = let field = c .before .before in gets-missing (turn field .loop .inv) (omega arith) (field-none _ _ (sym (field .read-field .ensures) ∙ c .enum-told .given .1))
 
 sub-read-value : tie.Need-sub-read-value Inv-loop μ-loop
 sub-read-value c = found c .from
@@ -44,10 +70,10 @@ part-read-value-end : tie.Need-part-read-value-end Inv-loop μ-loop
 part-read-value-end c = found c .within
 
 mul-read-value : tie.Need-mul-read-value Inv-loop μ-loop
-mul-read-value c = let h = gets-room (c .before .before .before .before .before .before .loop .inv) (omega arith) in omega arith
+mul-read-value c = omega (arith, few (sought (c .before)))
 
 array-read-read-value : tie.Need-array-read-read-value Inv-loop μ-loop
-array-read-read-value c = let h = gets-room (c .before .before .before .before .before .before .loop .inv) (omega arith) in omega arith
+array-read-read-value c = omega (arith, few (sought (c .before)))
 
 read-value-requires : tie.Need-read-value-requires Inv-loop μ-loop
 read-value-requires c κs = search needs
@@ -59,28 +85,34 @@ enum-told-2 : tie.Need-enum-told-2 Inv-loop μ-loop
 enum-told-2 c = search needs
 
 returns-2 : tie.Need-returns-2 Inv-loop μ-loop
-returns-2 c = gets-wrong (c .before .before .before .before .before .before .before .before .before .loop .inv) _ (omega arith) (found (c .before .before .before .before)) (sym (c .before .before .read-value .ensures) ∙ c .enum-told2 .given .1)
+returns-2 c =
+    let value = c .before .before in
+    let end = ended value in
+    gets-wrong (turn (sought end) .loop .inv) _ (omega arith) (found end) (sym (value .read-value .ensures) ∙ c .enum-told2 .given .1)
 
 cast-v : tie.Need-cast-v Inv-loop μ-loop
-cast-v c = let h = gets-small (c .before .before .before .before .before .before .before .before .before .before .loop .inv) _ _ (found (c .before .before .before .before .before)) (sym (c .before .before .before .read-value .ensures) ∙ c .before .n .given .1) in omega arith
+cast-v c = let value = valued c in omega (arith, gets-small (turn (sought (ended value)) .loop .inv) _ _ (sym (value .read-value .ensures) ∙ c .before .n .given .1))
 
 mul-v : tie.Need-mul-v Inv-loop μ-loop
-mul-v c = let h = gets-room (c .before .before .before .before .before .before .before .before .before .before .loop .inv) (omega arith) in omega arith
+mul-v c = omega (arith, few (sought (ended (valued c))))
 
 array-write-v : tie.Need-array-write-v Inv-loop μ-loop
-array-write-v c = let h = gets-room (c .before .before .before .before .before .before .before .before .before .before .loop .inv) (omega arith) in omega arith
+array-write-v c = omega (arith, few (sought (ended (valued c))))
 
 add-at : tie.Need-add-at Inv-loop μ-loop
-add-at c = let h = found (c .before .before .before .before .before) in omega arith
+add-at c = let h = found (ended (valued c)) in omega arith
 
 add-i : tie.Need-add-i Inv-loop μ-loop
-add-i c = let h = gets-room (c .before .before .before .before .before .before .before .before .before .before .loop .inv) (omega arith) in omega arith
+add-i c = omega (arith, few (sought (ended (valued c))))
 
 loop-less : tie.Need-loop-less Inv-loop μ-loop
 loop-less c = search needs
 
 loop-again : tie.Need-loop-again Inv-loop μ-loop
-loop-again c = gets-turn (c .before .before .before .before .before .before .before .before .before .before .loop .inv) _ _ (omega arith) (found (c .before .before .before .before .before)) (sym (c .before .before .before .read-value .ensures) ∙ c .before .n .given .1)
+loop-again c =
+    let value = valued c in
+    let end = ended value in
+    gets-turn (turn (sought end) .loop .inv) _ _ (omega arith) (found end) (sym (value .read-value .ensures) ∙ c .before .n .given .1)
 
 returns-3 : tie.Need-returns-3 Inv-loop μ-loop
 returns-3 c = gets-more (c .before .before .loop .inv) (omega arith) (c .if1 .taken)

@@ -1,3 +1,4 @@
+-- `record_of` compares the letter with the seven, and past them the line is bad.
 use Prim.Native.Nat.{ℕ}
 use mathlib.Core.Path.{ap, sym}
 use Rattle.line.specs.Grammar.{recordOf}
@@ -5,6 +6,13 @@ use Rattle.line.specs.RecordLaws.{record-none}
 use borrow.Author.Needs.{needs}
 use Rattle.line.proofs.records.record_of.Statement.{statement}
 use Rattle.line.proofs.records.record_of.Tie as tie
+
+-- ---- stations: from each the one before it
+
+abbrev start : tie.Else4 → tie.Start
+start c = c .before .before .before .before
+
+-- ---- needs
 
 array-read-t7 : tie.Need-array-read-t7
 array-read-t7 c = search needs
@@ -63,7 +71,7 @@ array-read-t43 c = search needs
 
 returns-5 : tie.Need-returns-5
 unfolding recordOf
-returns-5 c = sym (ap (λ (l : ℕ). recordOf l (c .before .before .before .before .before .args .t2)) (c .if5 .taken))
+returns-5 c = sym (ap (λ (l : ℕ). recordOf l (start (c .before) .args .t2)) (c .if5 .taken))
 
 array-read-t46 : tie.Need-array-read-t46
 array-read-t46 c = search needs
@@ -73,14 +81,14 @@ array-read-t49 c = search needs
 
 returns-6 : tie.Need-returns-6
 unfolding recordOf
-returns-6 c = sym (ap (λ (l : ℕ). recordOf l (c .before .before .before .before .before .before .args .t2)) (c .if6 .taken))
+returns-6 c = sym (ap (λ (l : ℕ). recordOf l (start (c .before .before) .args .t2)) (c .if6 .taken))
 
 array-read-t52 : tie.Need-array-read-t52
 array-read-t52 c = search needs
 
 returns-7 : tie.Need-returns-7
 unfolding recordOf
-returns-7 c = sym (ap (λ (l : ℕ). recordOf l (c .before .before .before .before .before .before .before .args .t2)) (c .if7 .taken))
+returns-7 c = sym (ap (λ (l : ℕ). recordOf l (start (c .before .before .before) .args .t2)) (c .if7 .taken))
 
 returns-8 : tie.Need-returns-8
 returns-8 c = record-none _ (c .before .before .before .before .before .before .if1 .left) (c .before .before .before .before .before .if2 .left) (c .before .before .before .before .if3 .left) (c .before .before .before .if4 .left) (c .before .before .if5 .left) (c .before .if6 .left) (c .if7 .left) _

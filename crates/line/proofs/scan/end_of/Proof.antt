@@ -1,3 +1,4 @@
+-- `end_of` has met no mark before i.
 use Prim.Native.Nat.{_-_}
 use native.Mathlib.Omega.{arith}
 use lib.ListN.{length}

@@ -1,22 +1,47 @@
-use Rattle.replay.specs.PartLaws.{part-within, part-long, part-added-few, part-add}
+-- `add_record` adds a zone in the part of the tables that is lent, and writes the answer.
+use Prim.Native.Nat.{_≤_}
+use mathlib.Core.Path.{refl}
+use lib.ListN.{length}
+use Rattle.order.specs.BufferLaws.{count-front}
+use Rattle.replay.specs.ReplyLaws.{lent-within, changed-back, call-few, call-replies}
 use borrow.Author.Needs.{needs}
 use Rattle.replay.proofs.changes.add_record.Statement.{statement}
 use Rattle.replay.proofs.changes.add_record.Tie as tie
+
+-- ---- stations: from each the one before it
+
+abbrev start : tie.After-places-in → tie.Start
+start c = c .before .before .before .before .before .before .before .before .before
+
+abbrev placed : tie.After-add-zone → tie.After-places-in
+placed c = c .before .before .before .before .before
+
+abbrev called : tie.After-write-added-arg → tie.After-add-zone
+called c = c .before .before .before .before .before .before .before .before .before
+
+-- the starts that the town needs are there
+within : (c : tie.After-places-in) → c .places-in .result ≤ length (start c .args .starts .now)
+within c = lent-within (start c .pre) (c .places-in .ensures)
+
+-- ---- needs
 
 places-in-requires : tie.Need-places-in-requires
 places-in-requires c κs = search needs
 
 slice-relend-prefix-add-zone : tie.Need-slice-relend-prefix-add-zone
-slice-relend-prefix-add-zone c = part-within (c .before .before .before .before .before .before .before .before .before .before .pre) _ (c .before .places-in .ensures)
+slice-relend-prefix-add-zone c = within (c .before)
 
 slice-aggregate-add-zone : tie.Need-slice-aggregate-add-zone
-slice-aggregate-add-zone c = part-long (c .before .before .before .before .before .before .before .before .before .before .before .pre) _ (c .before .before .places-in .ensures)
+slice-aggregate-add-zone c = count-front _ _ (within (c .before .before))
 
 add-zone-requires : tie.Need-add-zone-requires
 add-zone-requires c κs = search needs
 
-tell-added-requires : tie.Need-tell-added-requires
-tell-added-requires c κs = part-added-few (c .before .before .before .before .before .before .before .before .before .before .before .before .before .before .before .before .before .before .before .before .before .before .before .pre) _ (c .before .before .before .before .before .before .before .before .before .before .before .before .before .before .places-in .ensures) _ _ _ _ (c .before .before .before .before .before .before .before .before .before .add-zone .ensures)
+write-added-requires : tie.Need-write-added-requires
+write-added-requires c κs =
+    let done = called c in
+    let places = placed done in
+    call-few (start places .pre) (places .places-in .ensures) refl (done .add-zone .ensures)
 
 same-length : tie.Need-same-length
 same-length c = search needs
@@ -34,7 +59,11 @@ same-length-5 : tie.Need-same-length-5
 same-length-5 c = search needs
 
 returns : tie.Need-returns
-returns c = part-add (c .before .before .before .before .before .before .before .before .before .before .before .before .before .before .before .before .before .before .before .before .before .before .before .before .before .before .pre) _ (c .before .before .before .before .before .before .before .before .before .before .before .before .before .before .before .before .before .places-in .ensures) _ _ _ _ _ (c .before .before .before .before .before .before .before .before .before .before .before .before .add-zone .kept .1 .1 .1 .1 .0) _ _ (c .before .before .before .before .before .before .before .before .before .before .before .before .add-zone .ensures) (c .before .before .tell-added .ensures)
+returns c =
+    let wrote = c .before .before in
+    let done = called (wrote .before) in
+    let places = placed done in
+    call-replies (start places .pre) (places .places-in .ensures) refl (done .add-zone .ensures) refl (changed-back _ _ (within places) (done .add-zone .last .1 .1 .1 .1 .0) (done .add-zone .kept .1 .1 .1 .1 .0)) (wrote .write-added .ensures)
 
 pub add-record-spec : {M : Type 1} → statement M
 add-record-spec =
@@ -44,7 +73,7 @@ add-record-spec =
     slice-relend-prefix-add-zone
     slice-aggregate-add-zone
     add-zone-requires
-    tell-added-requires
+    write-added-requires
     same-length
     same-length-2
     same-length-3

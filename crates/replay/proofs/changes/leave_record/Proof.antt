@@ -1,26 +1,50 @@
+-- `leave_record` takes a car off the map in the part of the tables that is lent, and writes the answer.
+use Prim.Native.Nat.{_≤_}
 use mathlib.Core.Path.{refl}
-use Rattle.replay.specs.PartLaws.{part-long, part-departed-few, part-leave}
+use lib.ListN.{length}
+use Rattle.order.specs.BufferLaws.{count-front}
+use Rattle.replay.specs.ReplyLaws.{lent-within, read-back, call-few, call-replies}
 use borrow.Author.Needs.{needs}
 use Rattle.replay.proofs.changes.leave_record.Statement.{statement}
 use Rattle.replay.proofs.changes.leave_record.Tie as tie
 
+-- ---- stations: from each the one before it
+
+abbrev start : tie.After-places-in → tie.Start
+start c = c .before .before .before .before .before .before .before .before .before
+
+abbrev placed : tie.After-leave-map → tie.After-places-in
+placed c = c .before .before .before .before .before
+
+abbrev called : tie.After-write-left-arg → tie.After-leave-map
+called c = c .before .before .before .before .before .before .before
+
+-- the starts that the town needs are there
+within : (c : tie.After-places-in) → c .places-in .result ≤ length (start c .args .starts .now)
+within c = lent-within (start c .pre) (c .places-in .ensures)
+
+-- ---- needs
+
 places-in-requires : tie.Need-places-in-requires
 places-in-requires c κs = search needs
 
-slice-aggregate-leave-town : tie.Need-slice-aggregate-leave-town
-slice-aggregate-leave-town c = part-long (c .before .before .before .before .before .before .before .before .before .before .before .pre) _ (c .before .before .places-in .ensures)
+slice-aggregate-leave-map : tie.Need-slice-aggregate-leave-map
+slice-aggregate-leave-map c = count-front _ _ (within (c .before .before))
 
-slice-aggregate-leave-town-2 : tie.Need-slice-aggregate-leave-town-2
-slice-aggregate-leave-town-2 c = search needs
+slice-aggregate-leave-map-2 : tie.Need-slice-aggregate-leave-map-2
+slice-aggregate-leave-map-2 c = search needs
 
-leave-town-requires : tie.Need-leave-town-requires
-leave-town-requires c κs = search needs
+leave-map-requires : tie.Need-leave-map-requires
+leave-map-requires c κs = search needs
 
-slice-aggregate-tell-departed : tie.Need-slice-aggregate-tell-departed
-slice-aggregate-tell-departed c = search needs
+slice-aggregate-write-left : tie.Need-slice-aggregate-write-left
+slice-aggregate-write-left c = search needs
 
-tell-departed-requires : tie.Need-tell-departed-requires
-tell-departed-requires c κs = (c .before .before .before .before .before .before .before .leave-town .kept .1 .1 .1 .1 .1 .1 .1 .1 .0, part-departed-few (c .before .before .before .before .before .before .before .before .before .before .before .before .before .before .before .before .before .before .before .before .before .pre) _ (c .before .before .before .before .before .before .before .before .before .before .before .before .places-in .ensures) _ _ _ _ _ _ refl (c .before .before .before .before .before .before .before .leave-town .ensures))
+write-left-requires : tie.Need-write-left-requires
+write-left-requires c κs =
+    let done = called c in
+    let places = placed done in
+    (done .leave-map .kept .1 .1 .1 .1 .1 .1 .1 .1 .0, call-few (start places .pre) (places .places-in .ensures) refl (done .leave-map .ensures))
 
 same-length : tie.Need-same-length
 same-length c = search needs
@@ -32,18 +56,22 @@ same-length-3 : tie.Need-same-length-3
 same-length-3 c = search needs
 
 returns : tie.Need-returns
-returns c = part-leave (c .before .before .before .before .before .before .before .before .before .before .before .before .before .before .before .before .before .before .before .before .before .before .before .before .pre) _ (c .before .before .before .before .before .before .before .before .before .before .before .before .before .before .before .places-in .ensures) _ _ _ _ _ _ refl (c .before .before .before .before .before .before .before .before .before .before .leave-town .ensures) (c .before .before .tell-departed .ensures)
+returns c =
+    let wrote = c .before .before in
+    let done = called (wrote .before) in
+    let places = placed done in
+    call-replies (start places .pre) (places .places-in .ensures) refl (done .leave-map .ensures) refl (read-back _ _ (within places)) (wrote .write-left .ensures)
 
 pub leave-record-spec : {M : Type 1} → statement M
 leave-record-spec =
     tie.close
     (tie.spec
     places-in-requires
-    slice-aggregate-leave-town
-    slice-aggregate-leave-town-2
-    leave-town-requires
-    slice-aggregate-tell-departed
-    tell-departed-requires
+    slice-aggregate-leave-map
+    slice-aggregate-leave-map-2
+    leave-map-requires
+    slice-aggregate-write-left
+    write-left-requires
     same-length
     same-length-2
     same-length-3

@@ -1,42 +1,70 @@
+-- `roster_record` lists the cars of a zone from the part of the tables that is lent, and writes the answer.
+use Prim.Native.Nat.{_≤_}
 use mathlib.Core.Path.{refl}
-use Rattle.replay.specs.PartLaws.{part-long, part-listed-few, part-list}
+use lib.ListN.{length}
+use Rattle.order.specs.BufferLaws.{count-front}
+use Rattle.replay.specs.ReplyLaws.{lent-within, read-back, call-few, call-replies}
 use borrow.Author.Needs.{needs}
 use Rattle.replay.proofs.looks.roster_record.Statement.{statement}
 use Rattle.replay.proofs.looks.roster_record.Tie as tie
 
+-- ---- stations: from each the one before it
+
+abbrev start : tie.After-places-in → tie.Start
+start c = c .before .before .before .before .before .before .before .before .before
+
+abbrev placed : tie.After-roster-of-zone → tie.After-places-in
+placed c = c .before .before .before
+
+abbrev called : tie.After-write-roster-arg → tie.After-roster-of-zone
+called c = c .before .before .before
+
+-- the starts that the town needs are there
+within : (c : tie.After-places-in) → c .places-in .result ≤ length (start c .args .starts .now)
+within c = lent-within (start c .pre) (c .places-in .ensures)
+
+-- ---- needs
+
 places-in-requires : tie.Need-places-in-requires
 places-in-requires c κs = search needs
 
-slice-aggregate-list-roster : tie.Need-slice-aggregate-list-roster
-slice-aggregate-list-roster c = part-long (c .before .before .before .before .before .before .before .before .before .before .pre) _ (c .before .places-in .ensures)
+slice-aggregate-roster-of-zone : tie.Need-slice-aggregate-roster-of-zone
+slice-aggregate-roster-of-zone c = count-front _ _ (within (c .before))
 
-slice-aggregate-list-roster-2 : tie.Need-slice-aggregate-list-roster-2
-slice-aggregate-list-roster-2 c = search needs
+slice-aggregate-roster-of-zone-2 : tie.Need-slice-aggregate-roster-of-zone-2
+slice-aggregate-roster-of-zone-2 c = search needs
 
-list-roster-requires : tie.Need-list-roster-requires
-list-roster-requires c κs = search needs
+roster-of-zone-requires : tie.Need-roster-of-zone-requires
+roster-of-zone-requires c κs = search needs
 
-slice-aggregate-tell-listed : tie.Need-slice-aggregate-tell-listed
-slice-aggregate-tell-listed c = search needs
+slice-aggregate-write-roster : tie.Need-slice-aggregate-write-roster
+slice-aggregate-write-roster c = search needs
 
-tell-listed-requires : tie.Need-tell-listed-requires
-tell-listed-requires c κs = (c .before .before .before .list-roster .kept .1 .1 .1 .1 .1 .1 .1 .1 .0, part-listed-few (c .before .before .before .before .before .before .before .before .before .before .before .before .before .before .before .pre) _ (c .before .before .before .before .before .before .places-in .ensures) _ _ _ _ refl (c .before .before .before .list-roster .ensures))
+write-roster-requires : tie.Need-write-roster-requires
+write-roster-requires c κs =
+    let done = called c in
+    let places = placed done in
+    (done .roster-of-zone .kept .1 .1 .1 .1 .1 .1 .1 .1 .0, call-few (start places .pre) (places .places-in .ensures) refl (done .roster-of-zone .ensures))
 
 same-length : tie.Need-same-length
 same-length c = search needs
 
 returns : tie.Need-returns
-returns c = part-list (c .before .before .before .before .before .before .before .before .before .before .before .before .before .before .before .before .before .before .pre) _ (c .before .before .before .before .before .before .before .before .before .places-in .ensures) _ _ _ _ refl (c .before .before .before .before .before .before .list-roster .ensures) (c .before .before .tell-listed .ensures)
+returns c =
+    let wrote = c .before .before in
+    let done = called (wrote .before) in
+    let places = placed done in
+    call-replies (start places .pre) (places .places-in .ensures) refl (done .roster-of-zone .ensures) refl (read-back _ _ (within places)) (wrote .write-roster .ensures)
 
 pub roster-record-spec : {M : Type 1} → statement M
 roster-record-spec =
     tie.close
     (tie.spec
     places-in-requires
-    slice-aggregate-list-roster
-    slice-aggregate-list-roster-2
-    list-roster-requires
-    slice-aggregate-tell-listed
-    tell-listed-requires
+    slice-aggregate-roster-of-zone
+    slice-aggregate-roster-of-zone-2
+    roster-of-zone-requires
+    slice-aggregate-write-roster
+    write-roster-requires
     same-length
     returns)

@@ -1,3 +1,4 @@
+-- `places_in` counts the squares of an allowed shape, and none for another.
 use Prim.Native.Nat.{ℕ, _+_}
 use mathlib.Core.Path.{ap, sym, _∙_}
 use borrow.Author.Tests.{not-true, not-false}

@@ -1,3 +1,4 @@
+-- `position_of` makes a float of each coordinate's bits.
 use borrow.Author.Needs.{needs}
 use Rattle.replay.proofs.room.position_of.Statement.{statement}
 use Rattle.replay.proofs.room.position_of.Tie as tie

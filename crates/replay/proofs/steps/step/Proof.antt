@@ -1,9 +1,56 @@
-use mathlib.Core.Path.{sym, _∙_}
-use Rattle.replay.specs.PartLaws.{replies-as}
-use Rattle.replay.specs.ReplyLaws.{bad-replies}
+-- `step` answers each record by its function, and a line that is none at once.
+use mathlib.Core.Path.{_≡_, ap, sym, _∙_}
+use Rattle.line.specs.declared.records.Record.{Record}
+use Rattle.line.specs.Grammar.{meaning}
+use Rattle.replay.specs.Replies.{callOf}
+use Rattle.replay.specs.ReplyLaws.{replies-as, bad-replies}
 use borrow.Author.Needs.{needs}
 use Rattle.replay.proofs.steps.step.Statement.{statement}
 use Rattle.replay.proofs.steps.step.Tie as tie
+
+-- ---- stations: from each the one before it
+
+abbrev start : tie.After-parse → tie.Start
+start c = c .before .before .before .before .before .before .before .before .before .before
+
+abbrev opens : tie.After-open-record → tie.After-k
+opens c = c .before .before .before .before .before .before .before .before .before .before
+
+abbrev opens-done : tie.After-slice-known17 → tie.After-open-record
+opens-done c = c .before .before .before .before .before .before .before .before .before .before .before .before .before .before .before .before
+
+abbrev adds : tie.After-add-record → tie.After-zone
+adds c = c .before .before .before .before .before .before .before .before .before .before
+
+abbrev adds-done : tie.After-slice-known22 → tie.After-add-record
+adds-done c = c .before .before .before .before .before .before .before .before .before .before
+
+abbrev removes : tie.After-remove-record → tie.After-zone2
+removes c = c .before .before .before .before .before .before .before .before .before .before
+
+abbrev removes-done : tie.After-slice-known27 → tie.After-remove-record
+removes-done c = c .before .before .before .before .before .before .before .before .before .before
+
+abbrev reports : tie.After-report-record → tie.After-car
+reports c = c .before .before .before .before .before .before .before .before .before .before
+
+abbrev reports-done : tie.After-slice-known31 → tie.After-report-record
+reports-done c = c .before .before .before .before .before .before .before .before
+
+abbrev leaves : tie.After-leave-record → tie.After-car2
+leaves c = c .before .before .before .before .before .before .before .before .before .before
+
+abbrev searches : tie.After-search-record → tie.After-x
+searches c = c .before .before .before .before .before .before .before .before .before .before
+
+abbrev lists : tie.After-roster-record → tie.After-zone3
+lists c = c .before .before .before .before .before .before .before .before .before .before
+
+-- the line means the record that was read
+means : (c : tie.After-parse) {r : Record} → c .parse .result ≡ r → callOf (meaning (start c .args .line .now)) ≡ callOf r
+means c e = ap callOf (sym (c .parse .ensures) ∙ e)
+
+-- ---- needs
 
 parse-requires : tie.Need-parse-requires
 parse-requires c κs = search needs
@@ -60,7 +107,11 @@ same-length : tie.Need-same-length
 same-length c = search needs
 
 returns : tie.Need-returns
-returns c = replies-as (bad-replies (c .before .before .before .before .before .before .before .before .before .before .before .before .before .before .before .before .pre) (c .before .before .write-number .ensures)) (sym (c .before .before .before .before .before .before .parse .ensures) ∙ c .before .before .before .before .enum-told .given .1)
+returns c =
+    let wrote = c .before .before in
+    let bad = wrote .before .before in
+    let read = bad .before .before in
+    replies-as (bad-replies (start read .pre) (wrote .write-number .ensures)) (means read (bad .enum-told .given .1))
 
 same-length-2 : tie.Need-same-length-2
 same-length-2 c = search needs
@@ -87,7 +138,10 @@ same-length-9 : tie.Need-same-length-9
 same-length-9 c = search needs
 
 returns-2 : tie.Need-returns-2
-returns-2 c = replies-as (c .before .before .before .before .before .before .before .before .before .before .before .before .before .before .before .before .open-record .ensures) (sym (c .before .before .before .before .before .before .before .before .before .before .before .before .before .before .before .before .before .before .before .before .before .before .before .before .before .before .before .before .parse .ensures) ∙ c .before .before .before .before .before .before .before .before .before .before .before .before .before .before .before .before .before .before .before .before .before .before .before .before .before .before .k .given .1)
+returns-2 c =
+    let done = opens-done c in
+    let at = opens done in
+    replies-as (done .open-record .ensures) (means (at .before .before) (at .k .given .1))
 
 same-length-10 : tie.Need-same-length-10
 same-length-10 c = search needs
@@ -114,7 +168,10 @@ same-length-17 : tie.Need-same-length-17
 same-length-17 c = search needs
 
 returns-3 : tie.Need-returns-3
-returns-3 c = replies-as (c .before .before .before .before .before .before .before .before .before .before .add-record .ensures) (sym (c .before .before .before .before .before .before .before .before .before .before .before .before .before .before .before .before .before .before .before .before .before .before .parse .ensures) ∙ c .before .before .before .before .before .before .before .before .before .before .before .before .before .before .before .before .before .before .before .before .zone .given .1)
+returns-3 c =
+    let done = adds-done c in
+    let at = adds done in
+    replies-as (done .add-record .ensures) (means (at .before .before) (at .zone .given .1))
 
 same-length-18 : tie.Need-same-length-18
 same-length-18 c = search needs
@@ -141,7 +198,10 @@ same-length-25 : tie.Need-same-length-25
 same-length-25 c = search needs
 
 returns-4 : tie.Need-returns-4
-returns-4 c = replies-as (c .before .before .before .before .before .before .before .before .before .before .remove-record .ensures) (sym (c .before .before .before .before .before .before .before .before .before .before .before .before .before .before .before .before .before .before .before .before .before .before .parse .ensures) ∙ c .before .before .before .before .before .before .before .before .before .before .before .before .before .before .before .before .before .before .before .before .zone2 .given .1)
+returns-4 c =
+    let done = removes-done c in
+    let at = removes done in
+    replies-as (done .remove-record .ensures) (means (at .before .before) (at .zone2 .given .1))
 
 same-length-26 : tie.Need-same-length-26
 same-length-26 c = search needs
@@ -168,7 +228,10 @@ same-length-33 : tie.Need-same-length-33
 same-length-33 c = search needs
 
 returns-5 : tie.Need-returns-5
-returns-5 c = replies-as (c .before .before .before .before .before .before .before .before .report-record .ensures) (sym (c .before .before .before .before .before .before .before .before .before .before .before .before .before .before .before .before .before .before .before .before .parse .ensures) ∙ c .before .before .before .before .before .before .before .before .before .before .before .before .before .before .before .before .before .before .car .given .1)
+returns-5 c =
+    let done = reports-done c in
+    let at = reports done in
+    replies-as (done .report-record .ensures) (means (at .before .before) (at .car .given .1))
 
 same-length-34 : tie.Need-same-length-34
 same-length-34 c = search needs
@@ -195,7 +258,10 @@ same-length-41 : tie.Need-same-length-41
 same-length-41 c = search needs
 
 returns-6 : tie.Need-returns-6
-returns-6 c = replies-as (c .before .before .before .before .before .before .leave-record .ensures) (sym (c .before .before .before .before .before .before .before .before .before .before .before .before .before .before .before .before .before .before .parse .ensures) ∙ c .before .before .before .before .before .before .before .before .before .before .before .before .before .before .before .before .car2 .given .1)
+returns-6 c =
+    let done = c .before .before .before .before .before .before in
+    let at = leaves done in
+    replies-as (done .leave-record .ensures) (means (at .before .before) (at .car2 .given .1))
 
 same-length-42 : tie.Need-same-length-42
 same-length-42 c = search needs
@@ -222,7 +288,10 @@ same-length-49 : tie.Need-same-length-49
 same-length-49 c = search needs
 
 returns-7 : tie.Need-returns-7
-returns-7 c = replies-as (c .before .before .search-record .ensures) (sym (c .before .before .before .before .before .before .before .before .before .before .before .before .before .before .parse .ensures) ∙ c .before .before .before .before .before .before .before .before .before .before .before .before .x .given .1)
+returns-7 c =
+    let done = c .before .before in
+    let at = searches done in
+    replies-as (done .search-record .ensures) (means (at .before .before) (at .x .given .1))
 
 same-length-50 : tie.Need-same-length-50
 same-length-50 c = search needs
@@ -249,7 +318,10 @@ same-length-57 : tie.Need-same-length-57
 same-length-57 c = search needs
 
 returns-8 : tie.Need-returns-8
-returns-8 c = replies-as (c .before .before .roster-record .ensures) (sym (c .before .before .before .before .before .before .before .before .before .before .before .before .before .before .parse .ensures) ∙ c .before .before .before .before .before .before .before .before .before .before .before .before .zone3 .given .1)
+returns-8 c =
+    let done = c .before .before in
+    let at = lists done in
+    replies-as (done .roster-record .ensures) (means (at .before .before) (at .zone3 .given .1))
 
 pub step-spec : {M : Type 1} → statement M
 step-spec =

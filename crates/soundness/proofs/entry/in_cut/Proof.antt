@@ -1,3 +1,4 @@
+-- `in_cut`: the square is inside the rectangle, and its parent, if it has one, is not.
 use mathlib.Core.Bool.{not}
 use mathlib.Core.Path.{ap, sym, _∙_}
 use borrow.Author.Tests.{not-true, not-false}

@@ -1,3 +1,4 @@
+-- `is_inside`: the square, by its corner and its side, lies within the rectangle.
 use mathlib.Core.Path.{_∙_}
 use Rattle.soundness.specs.EntryLaws.{near-square, inside-square}
 use borrow.Author.Needs.{needs}

@@ -1,3 +1,4 @@
+-- `square_at`: down the levels, each level's squares taken off the place, until the rest is a number of the level.
 use Prim.Native.Nat.{_-_}
 use Rattle.squares.specs.ShapeLaws.{blocks-small}
 use Rattle.soundness.specs.EntryLaws.{Walked, walk-begins, walk-turns, walk-found, walk-ends}

@@ -1,5 +1,6 @@
+-- `cut_sizes`: the loop has added up the entries of the zones passed.
 use Prim.Native.Nat.{_-_}
-use Rattle.soundness.specs.EntryLaws.{Summed, summed-none, summed-more, summed-end}
+use Rattle.soundness.specs.ZoneLaws.{Summed, summed-none, summed-more, summed-end}
 use borrow.Author.Needs.{needs}
 use Rattle.soundness.proofs.lists.cut_sizes.Statement.{statement}
 use Rattle.soundness.proofs.lists.cut_sizes.Tie as tie

@@ -1,3 +1,4 @@
+-- `frees`: each entry passed is the free mark.
 use Prim.Native.Nat.{_-_}
 use lib.ListN.{length}
 use borrow.Author.Tests.{eq-eqb, ne-eqb}

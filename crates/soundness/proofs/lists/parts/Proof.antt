@@ -1,3 +1,4 @@
+-- `parts`: no more than u, the last before is below the key, and the first after is not.
 use mathlib.Core.Path.{sym, _∙_}
 use borrow.Author.Tests.{not-true, not-false}
 use Rattle.soundness.specs.StartLaws.{parts-many, parts-low, parts-high}

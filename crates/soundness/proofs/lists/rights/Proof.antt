@@ -1,3 +1,4 @@
+-- `rights`: each entry passed is a key in use.
 use Prim.Native.Nat.{_-_}
 use mathlib.Core.Path.{sym, _∙_}
 use borrow.Author.Tests.{not-true, not-false}

@@ -1,3 +1,4 @@
+-- `rises`: each entry passed is below the next.
 use Prim.Native.Nat.{_-_}
 use native.Mathlib.Omega.{arith}
 use borrow.Author.Tests.{lt-ltb, le-ltb}

@@ -1,3 +1,4 @@
+-- `starts_above`: there is no entry after the first n of u, or it is not below the key.
 use Rattle.soundness.specs.StartLaws.{above-none, above-some}
 use borrow.Author.Needs.{needs}
 use Rattle.soundness.proofs.lists.starts_above.Statement.{statement}

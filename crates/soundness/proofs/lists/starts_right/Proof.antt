@@ -1,3 +1,4 @@
+-- `starts_right`: the list of each place passed starts where it should.
 use Prim.Native.Nat.{_-_}
 use lib.ListN.{length}
 use mathlib.Core.Path.{ap, sym, _∙_}

@@ -1,3 +1,4 @@
+-- `cars_fit`: each car passed that is placed has a position on the map.
 use Prim.Native.Nat.{_-_}
 use mathlib.Core.Path.{sym, _∙_}
 use borrow.Author.Tests.{not-true, not-false}

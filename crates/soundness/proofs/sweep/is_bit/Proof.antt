@@ -1,4 +1,5 @@
-use Rattle.soundness.specs.EntryLaws.{bit-yes, bit-no}
+-- `is_bit`: a byte of 1 says yes, and 0 says no.
+use Rattle.soundness.specs.CarLaws.{bit-yes, bit-no}
 use Rattle.soundness.proofs.sweep.is_bit.Statement.{statement}
 use Rattle.soundness.proofs.sweep.is_bit.Tie as tie
 

@@ -1,3 +1,4 @@
+-- `zones_fit`: each zone passed that stands fits.
 use Prim.Native.Nat.{_-_}
 use mathlib.Core.Path.{sym, _∙_}
 use borrow.Author.Tests.{not-true, not-false}

@@ -1,3 +1,4 @@
+-- The squares of a cut counted: each turn adds those of one level that are inside and have no parent inside.
 use Prim.Native.Nat.{suc, _-_, _*_, _≤_}
 use Rattle.squares.specs.CountLaws.{CountTurn, count-begins, count-room, count-turns, count-ends}
 use borrow.Author.Needs.{needs}
@@ -10,6 +11,13 @@ Inv-loop s r total₀ above₀ level₀ total above level = CountTurn s r total 
 abbrev μ-loop : tie.MeasureT-loop
 μ-loop s r total₀ above₀ level₀ total above level = suc (s .k) - level
 
+-- from the squares inside back to the loop's test and its top
+abbrev turn : tie.After-wholes2 Inv-loop μ-loop → tie.Then1 Inv-loop μ-loop
+turn c = c .before .before .before .before
+
+abbrev top : tie.Then1 Inv-loop μ-loop → tie.At-loop Inv-loop μ-loop
+top c = c .before .before
+
 loop-holds : tie.Need-loop-holds Inv-loop μ-loop
 loop-holds c = count-begins (c .pre)
 
@@ -19,8 +27,8 @@ wholes-requires c κs = search needs
 wholes-requires-2 : tie.Need-wholes-requires-2 Inv-loop μ-loop
 wholes-requires-2 c κs = search needs
 
-room : (c : tie.After-wholes2 Inv-loop μ-loop) → (c .before .before .wholes .result * c .wholes2 .result ≤ 65536) × (4 * c .before .before .before .before .before .before .loop .above ≤ c .before .before .wholes .result * c .wholes2 .result)
-room c = count-room (c .before .before .before .before .before .before .before .pre) (c .before .before .before .before .before .before .loop .inv) (c .before .before .before .before .if1 .taken) (c .before .before .wholes .ensures) (c .wholes2 .ensures)
+room : (c : tie.After-wholes2 Inv-loop μ-loop) → (c .before .before .wholes .result * c .wholes2 .result ≤ 65536) × (4 * top (turn c) .loop .above ≤ c .before .before .wholes .result * c .wholes2 .result)
+room c = count-room (top (turn c) .before .pre) (top (turn c) .loop .inv) (turn c .if1 .taken) (c .before .before .wholes .ensures) (c .wholes2 .ensures)
 
 mul-inside : tie.Need-mul-inside Inv-loop μ-loop
 mul-inside c = let h = room c in search needs
@@ -41,7 +49,7 @@ loop-less : tie.Need-loop-less Inv-loop μ-loop
 loop-less c = search needs
 
 loop-again : tie.Need-loop-again Inv-loop μ-loop
-loop-again c = count-turns (c .before .before .before .before .before .before .before .pre) (c .before .before .before .before .before .before .loop .inv) (c .before .before .before .before .if1 .taken) (c .before .before .wholes .ensures) (c .wholes2 .ensures)
+loop-again c = count-turns (top (turn c) .before .pre) (top (turn c) .loop .inv) (turn c .if1 .taken) (c .before .before .wholes .ensures) (c .wholes2 .ensures)
 
 cast-result : tie.Need-cast-result Inv-loop μ-loop
 cast-result c = search needs

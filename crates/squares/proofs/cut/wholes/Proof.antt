@@ -1,3 +1,4 @@
+-- The whole steps in a stretch are those before its end less those before its first.
 use mathlib.Core.Path.{refl}
 use native.Mathlib.Omega.{arith}
 use Rattle.squares.specs.CountLaws.{wholes-is}

@@ -1,3 +1,4 @@
+-- The squares that differ, from the highest bit in which the two numbers differ.
 use native.Mathlib.Nat.{le-trans}
 use lib.Dec.{lit≤}
 use lib.Count.{leading-le}

@@ -1,3 +1,4 @@
+-- Every other bit of a number: each turn puts one bit above those already there.
 use Prim.Native.Nat.{_-_, _≤_}
 use native.Mathlib.Nat.{sub-zero}
 use native.Mathlib.Omega.{arith}

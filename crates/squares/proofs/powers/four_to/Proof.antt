@@ -1,3 +1,4 @@
+-- A power of four is a one shifted twice as far.
 use Prim.Native.Nat.{_*_}
 use mathlib.Core.Path.{_∙_}
 use native.Mathlib.Omega.{arith}

@@ -1,3 +1,4 @@
+-- Two numbers interleaved are each spread, the second shifted by one.
 use Rattle.squares.specs.SquareLaws.{bits-small, interleaved-none, interleaved-is}
 use borrow.Author.Needs.{needs}
 use Rattle.squares.proofs.powers.interleaved.Statement.{statement}

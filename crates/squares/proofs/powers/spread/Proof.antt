@@ -1,3 +1,4 @@
+-- The bits of a number spread: the sum is the interleaving with 0.
 use Rattle.squares.specs.SquareLaws.{spread-is}
 use borrow.Author.Needs.{needs}
 use Rattle.squares.proofs.powers.spread.Statement.{statement}

@@ -1,3 +1,4 @@
+-- A power of two is a one shifted.
 use native.Mathlib.Omega.{arith}
 use lib.Pow.{pow-pos, pow-mono}
 use Rattle.squares.specs.PowerLaws.{shifted}

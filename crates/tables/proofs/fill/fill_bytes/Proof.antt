@@ -1,3 +1,4 @@
+-- `fill_bytes` has set the bytes before i, and the others are as they were.
 use Prim.Native.Nat.{_-_, _≤_}
 use mathlib.Core.Path.{_≡_, refl}
 use mathlib.Core.List.{_++_}

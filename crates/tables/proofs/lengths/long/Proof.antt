@@ -1,33 +1,58 @@
-use mathlib.Core.Path.{sym}
+-- `long` says no at the first table of another length, and yes past all seven.
+use mathlib.Core.Bool.{false}
+use mathlib.Core.Path.{_≡_, sym}
 use native.Mathlib.Nat.{mul-le-mul}
 use native.Mathlib.Omega.{arith}
 use Rattle.tables.specs.Tables.{Tables, tables}
-use Rattle.tables.specs.Check.{Long}
+use Rattle.tables.specs.Check.{long}
+use Rattle.tables.specs.Sizes.{Long}
 use Rattle.tables.specs.CheckLaws.{→long, not-long}
 use borrow.Author.Needs.{needs}
 use Rattle.tables.proofs.lengths.long.Statement.{statement}
 use Rattle.tables.proofs.lengths.long.Tie as tie
 
+-- ---- stations: from each the one before it
+
+abbrev start : tie.After-shared-slice-known7 → tie.Start
+start c = c .before .before .before .before .before .before .before
+
+abbrev lent : tie.Else4 → tie.After-shared-slice-known7
+lent c = c .before .before .before .before
+
+abbrev recorded : tie.Else6 → tie.Else4
+recorded c = c .before .before .before
+
 abbrev whole : tie.Start → Tables
 whole c = tables (c .args .head .now) (c .args .zones .now) (c .args .cars .now) (c .args .spots .now) (c .args .starts .now) (c .args .entries .now) (c .args .rosters .now)
 
+-- ---- what is asked there
+
+abbrev Right : tie.Start → Type 0
+Right c = Long (c .args .s) (c .args .Z) (c .args .C) (c .args .E) (whole c)
+
+-- where not every length is right the answer is no
+wrong : (c : tie.Start) → (Right c → ⊥) → false ≡ long (c .args .s) (c .args .Z) (c .args .C) (c .args .E) (whole c)
+wrong c f = sym (not-long (c .args .s) (c .args .Z) (c .args .C) (c .args .E) (whole c) f)
+
+-- ---- needs
+
 returns : tie.Need-returns
-returns c = let a = c .before .before .before .before .before .before .before .before .args in let t = whole (c .before .before .before .before .before .before .before .before) in sym (not-long (a .s) (a .Z) (a .C) (a .E) t (λ (h : Long (a .s) (a .Z) (a .C) (a .E) t). omega arith))
+returns c = let at = start (c .before) in wrong at (λ (h : Right at). omega arith)
 
 mul-if2 : tie.Need-mul-if2
 mul-if2 c = search needs
 
 returns-2 : tie.Need-returns-2
-returns-2 c = let a = c .before .before .before .before .before .before .before .before .before .args in let t = whole (c .before .before .before .before .before .before .before .before .before) in sym (not-long (a .s) (a .Z) (a .C) (a .E) t (λ (h : Long (a .s) (a .Z) (a .C) (a .E) t). omega arith))
+returns-2 c = let at = start (c .before .before) in wrong at (λ (h : Right at). omega arith)
 
 returns-3 : tie.Need-returns-3
-returns-3 c = let a = c .before .before .before .before .before .before .before .before .before .before .args in let t = whole (c .before .before .before .before .before .before .before .before .before .before) in sym (not-long (a .s) (a .Z) (a .C) (a .E) t (λ (h : Long (a .s) (a .Z) (a .C) (a .E) t). omega arith))
+returns-3 c = let at = start (c .before .before .before) in wrong at (λ (h : Right at). omega arith)
 
 mul-if4 : tie.Need-mul-if4
 mul-if4 c = search needs
 
 returns-4 : tie.Need-returns-4
-returns-4 c = let a = c .before .before .before .before .before .before .before .before .before .before .before .args in let t = whole (c .before .before .before .before .before .before .before .before .before .before .before) in sym (not-long (a .s) (a .Z) (a .C) (a .E) t (λ (h : Long (a .s) (a .Z) (a .C) (a .E) t). omega arith))
+returns-4 c = let at = start (c .before .before .before .before) in wrong at (λ (h : Right at). omega arith)
 
 squares-requires : tie.Need-squares-requires
 squares-requires c κs = search needs
@@ -39,19 +64,19 @@ add-if5 : tie.Need-add-if5
 add-if5 c = search needs
 
 returns-5 : tie.Need-returns-5
-returns-5 c = let a = c .before .before .before .before .before .before .before .before .before .before .before .before .before .args in let t = whole (c .before .before .before .before .before .before .before .before .before .before .before .before .before) in sym (not-long (a .s) (a .Z) (a .C) (a .E) t (λ (h : Long (a .s) (a .Z) (a .C) (a .E) t). omega arith))
+returns-5 c = let at = start (lent (c .before .before)) in wrong at (λ (h : Right at). omega arith)
 
 returns-6 : tie.Need-returns-6
-returns-6 c = let a = c .before .before .before .before .before .before .before .before .before .before .before .before .before .before .args in let t = whole (c .before .before .before .before .before .before .before .before .before .before .before .before .before .before) in sym (not-long (a .s) (a .Z) (a .C) (a .E) t (λ (h : Long (a .s) (a .Z) (a .C) (a .E) t). omega arith))
+returns-6 c = let at = start (lent (c .before .before .before)) in wrong at (λ (h : Right at). omega arith)
 
 mul-if7 : tie.Need-mul-if7
-mul-if7 c = let g = mul-le-mul (c .before .before .before .before .before .before .before .before .before .before .before .before .before .before .pre .1 .zones-few) (c .before .before .before .before .before .before .before .before .before .before .before .before .before .before .pre .1 .cars-few) in search needs
+mul-if7 c = let room = start (lent (recorded c)) .pre .1 in let most = mul-le-mul (room .zones-few) (room .cars-few) in search needs
 
 returns-7 : tie.Need-returns-7
-returns-7 c = let a = c .before .before .before .before .before .before .before .before .before .before .before .before .before .before .before .args in let t = whole (c .before .before .before .before .before .before .before .before .before .before .before .before .before .before .before) in sym (not-long (a .s) (a .Z) (a .C) (a .E) t (λ (h : Long (a .s) (a .Z) (a .C) (a .E) t). omega arith))
+returns-7 c = let at = start (lent (recorded (c .before))) in wrong at (λ (h : Right at). omega arith)
 
 returns-8 : tie.Need-returns-8
-returns-8 c = let a = c .before .before .before .before .before .before .before .before .before .before .before .before .before .before .before .args in let t = whole (c .before .before .before .before .before .before .before .before .before .before .before .before .before .before .before) in sym (→long (a .s) (a .Z) (a .C) (a .E) t (omega arith))
+returns-8 c = let at = start (lent (recorded (c .before))) in sym (→long (at .args .s) (at .args .Z) (at .args .C) (at .args .E) (whole at) (omega arith))
 
 pub long-spec : {M : Type 1} → statement M
 long-spec =

@@ -1,3 +1,4 @@
+-- `parent_of` takes a quarter of what is left past the blocks; of a block that is 0.
 use Rattle.squares.specs.ShapeLaws.{blocks-small}
 use borrow.Author.Needs.{needs}
 use Rattle.tables.proofs.places.parent_of.Statement.{statement}

@@ -1,3 +1,4 @@
+-- `place_of` adds a number to the count of the squares above, which the count on the level gives.
 use Rattle.tables.specs.PlaceLaws.{blocks-few, blocks-within, place-is}
 use borrow.Author.Needs.{needs}
 use Rattle.tables.proofs.places.place_of.Statement.{statement}

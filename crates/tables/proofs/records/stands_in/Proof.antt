@@ -1,3 +1,4 @@
+-- `stands_in` tells by the width of the rectangle that `rect_in` reads.
 use borrow.Author.Needs.{needs}
 use Rattle.tables.proofs.records.stands_in.Statement.{statement}
 use Rattle.tables.proofs.records.stands_in.Tie as tie

@@ -1,3 +1,4 @@
+-- `write_head` writes six numbers one after the other, so head is those six.
 use lib.ListN.{length-set}
 use native.Mathlib.Omega.{arith}
 use Rattle.tables.specs.RecordLaws.{head-written}

@@ -1,3 +1,4 @@
+-- `add_marked` stores nothing where the byte is 0, and else the car.
 use Rattle.tables.specs.RowLaws.{adds-none, adds-one}
 use borrow.Author.Needs.{needs}
 use Rattle.tables.proofs.rosters.add_marked.Statement.{statement}

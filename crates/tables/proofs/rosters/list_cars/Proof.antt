@@ -1,3 +1,4 @@
+-- `list_cars` has stored the cars below c whose byte is not 0, lowest first.
 use Prim.Native.Nat.{_-_, _≤_}
 use mathlib.Core.Path.{_≡_}
 use native.Mathlib.Omega.{arith}
@@ -14,6 +15,16 @@ Inv-loop rosters z many out₀ from next₀ c₀ out next c = (c ≤ many) × ((
 
 abbrev μ-loop : tie.MeasureT-loop
 μ-loop rosters z many out₀ from next₀ c₀ out next c = many - c
+
+-- ---- stations: from each the one before it
+
+abbrev start : tie.At-loop Inv-loop μ-loop → tie.Start Inv-loop μ-loop
+start c = c .before .before .before
+
+abbrev turn : tie.After-add-marked Inv-loop μ-loop → tie.At-loop Inv-loop μ-loop
+turn c = c .before .before .before .before
+
+-- ---- needs
 
 mul-from : tie.Need-mul-from Inv-loop μ-loop
 mul-from c = search needs
@@ -40,13 +51,16 @@ loop-less : tie.Need-loop-less Inv-loop μ-loop
 loop-less c = search needs
 
 loop-again : tie.Need-loop-again Inv-loop μ-loop
-loop-again c = (search needs, (omega (arith, c .before .before .add-marked .ensures .most), row-turn (c .before .before .before .before .before .before .before .before .before .args .rosters .now) _ (c .before .before .before .before .before .before .loop .c) (c .before .before .before .before .before .before .loop .inv .1 .1) (c .before .before .add-marked .ensures)))
+loop-again c =
+    let added = c .before .before in
+    let begun = turn added in
+    (search needs, (omega (arith, added .add-marked .ensures .most), row-turn (start begun .args .rosters .now) _ (begun .loop .c) (begun .loop .inv .1 .1) (added .add-marked .ensures)))
 
 same-length : tie.Need-same-length Inv-loop μ-loop
 same-length c = wrote-length (c .before .loop .inv .1 .1)
 
 returns : tie.Need-returns Inv-loop μ-loop
-returns c = let e : c .before .loop .c ≡ c .before .before .before .before .args .many = omega arith in rw e at (c .before .loop .inv .1 .1)
+returns c = let ended = c .before in let e : ended .loop .c ≡ start ended .args .many = omega arith in rw e at (ended .loop .inv .1 .1)
 
 pub list-cars-spec : {M : Type 1} → statement M
 list-cars-spec =

@@ -1,3 +1,4 @@
+-- `gather` puts the zones of a run one by one: what is left of the run, put into what stands, gives all.
 use Prim.Native.Nat.{_+_, _-_}
 use native.Mathlib.Omega.{arith}
 use Rattle.order.specs.BufferLaws.{front-length, front-within}
@@ -13,6 +14,19 @@ Inv-loop starts entries p out₀ n end i₀ count₀ out i count = Gathering any
 abbrev μ-loop : tie.MeasureT-loop
 μ-loop starts entries p out₀ n end i₀ count₀ out i count = end - i
 
+-- ---- stations: from each the one before it
+
+abbrev start : tie.After-shared-slice-known3 Inv-loop μ-loop → tie.Start Inv-loop μ-loop
+start c = c .before .before .before .before
+
+abbrev read : tie.After-shared-slice-known4 Inv-loop μ-loop → tie.After-shared-slice-known3 Inv-loop μ-loop
+read c = c .before .before
+
+abbrev turn : tie.After-put Inv-loop μ-loop → tie.At-loop Inv-loop μ-loop
+turn c = c .before .before .before .before
+
+-- ---- needs
+
 add-end : tie.Need-add-end Inv-loop μ-loop
 add-end c = search needs
 
@@ -23,10 +37,10 @@ shared-slice-read-end : tie.Need-shared-slice-read-end Inv-loop μ-loop
 shared-slice-read-end c = search needs
 
 cast-end : tie.Need-cast-end Inv-loop μ-loop
-cast-end c = omega (arith, c .shared-slice-known3 .given (c .before .before .before .before .args .p + 1))
+cast-end c = omega (arith, c .shared-slice-known3 .given (start c .args .p + 1))
 
 returns : tie.Need-returns Inv-loop μ-loop
-returns c = gather-none any _ _ _ _ _ (c .before .before .before .before .before .pre .1) (c .if1 .taken)
+returns c = gather-none any _ _ _ _ _ (start (c .before) .pre .1) (c .if1 .taken)
 
 mul-i : tie.Need-mul-i Inv-loop μ-loop
 mul-i c = search needs
@@ -35,10 +49,10 @@ shared-slice-read-i : tie.Need-shared-slice-read-i Inv-loop μ-loop
 shared-slice-read-i c = search needs
 
 cast-i : tie.Need-cast-i Inv-loop μ-loop
-cast-i c = omega (arith, c .shared-slice-known4 .given (c .before .before .before .before .before .before .args .p))
+cast-i c = omega (arith, c .shared-slice-known4 .given (start (read c) .args .p))
 
 loop-holds : tie.Need-loop-holds Inv-loop μ-loop
-loop-holds c = gather-begins any _ _ _ _ _ (c .before .before .before .before .before .before .pre .1) (c .before .if1 .left)
+loop-holds c = gather-begins any _ _ _ _ _ (start (read c) .pre .1) (c .before .if1 .left)
 
 mul-put : tie.Need-mul-put Inv-loop μ-loop
 mul-put c = let h = c .before .before .loop .inv .listed in search needs
@@ -56,7 +70,7 @@ loop-less : tie.Need-loop-less Inv-loop μ-loop
 loop-less c = search needs
 
 loop-again : tie.Need-loop-again Inv-loop μ-loop
-loop-again c = gather-turns (c .before .before .before .before .before .before .loop .inv) (c .before .before .before .before .before .loop-test .taken) (put-any (front-within (c .before .before .before .before .before .before .loop .inv .front)) (c .before .before .put .ensures))
+loop-again c = let put = c .before .before in let begun = turn put .loop .inv in gather-turns begun (put .before .before .before .loop-test .taken) (put-any (front-within (begun .front)) (put .put .ensures))
 
 same-length : tie.Need-same-length Inv-loop μ-loop
 same-length c = front-length (c .before .loop .inv .front)

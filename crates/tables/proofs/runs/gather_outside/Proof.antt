@@ -1,3 +1,4 @@
+-- `gather_outside` puts those zones of a run that do not hold a cell, as `gather` puts all.
 use Prim.Native.Nat.{_+_, _-_}
 use native.Mathlib.Omega.{arith}
 use Rattle.order.specs.BufferLaws.{front-length, front-within}
@@ -6,13 +7,25 @@ use Rattle.tables.specs.GatherLaws.{Gathering, gather-none, gather-begin
 use borrow.Author.Needs.{needs}
 use Rattle.tables.proofs.runs.gather_outside.Statement.{statement}
 use Rattle.tables.proofs.runs.gather_outside.Tie as tie
-use Rattle.tables.proofs.runs.put_outside.Reads as put-outside-reads
 
 abbrev Inv-loop : tie.InvT-loop
 Inv-loop zones x y starts entries p out₀ n end i₀ count₀ out i count = Gathering (outside zones x y) starts entries p out₀ n out i end count
 
 abbrev μ-loop : tie.MeasureT-loop
 μ-loop zones x y starts entries p out₀ n end i₀ count₀ out i count = end - i
+
+-- ---- stations: from each the one before it
+
+abbrev start : tie.After-shared-slice-known4 Inv-loop μ-loop → tie.Start Inv-loop μ-loop
+start c = c .before .before .before .before .before
+
+abbrev read : tie.After-shared-slice-known5 Inv-loop μ-loop → tie.After-shared-slice-known4 Inv-loop μ-loop
+read c = c .before .before
+
+abbrev turn : tie.After-put-outside Inv-loop μ-loop → tie.At-loop Inv-loop μ-loop
+turn c = c .before .before .before .before
+
+-- ---- needs
 
 add-end : tie.Need-add-end Inv-loop μ-loop
 add-end c = search needs
@@ -24,10 +37,10 @@ shared-slice-read-end : tie.Need-shared-slice-read-end Inv-loop μ-loop
 shared-slice-read-end c = search needs
 
 cast-end : tie.Need-cast-end Inv-loop μ-loop
-cast-end c = omega (arith, c .shared-slice-known4 .given (c .before .before .before .before .before .args .p + 1))
+cast-end c = omega (arith, c .shared-slice-known4 .given (start c .args .p + 1))
 
 returns : tie.Need-returns Inv-loop μ-loop
-returns c = gather-none _ _ _ _ _ _ (c .before .before .before .before .before .before .pre .1) (c .if1 .taken)
+returns c = gather-none _ _ _ _ _ _ (start (c .before) .pre .1) (c .if1 .taken)
 
 mul-i : tie.Need-mul-i Inv-loop μ-loop
 mul-i c = search needs
@@ -36,10 +49,10 @@ shared-slice-read-i : tie.Need-shared-slice-read-i Inv-loop μ-loop
 shared-slice-read-i c = search needs
 
 cast-i : tie.Need-cast-i Inv-loop μ-loop
-cast-i c = omega (arith, c .shared-slice-known5 .given (c .before .before .before .before .before .before .before .args .p))
+cast-i c = omega (arith, c .shared-slice-known5 .given (start (read c) .args .p))
 
 loop-holds : tie.Need-loop-holds Inv-loop μ-loop
-loop-holds c = gather-begins _ _ _ _ _ _ (c .before .before .before .before .before .before .before .pre .1) (c .before .if1 .left)
+loop-holds c = gather-begins _ _ _ _ _ _ (start (read c) .pre .1) (c .before .if1 .left)
 
 mul-put-outside : tie.Need-mul-put-outside Inv-loop μ-loop
 mul-put-outside c = let h = c .before .loop .inv .listed in search needs
@@ -57,7 +70,7 @@ loop-less : tie.Need-loop-less Inv-loop μ-loop
 loop-less c = search needs
 
 loop-again : tie.Need-loop-again Inv-loop μ-loop
-loop-again c = gather-turns (c .before .before .before .before .before .before .loop .inv) (c .before .before .before .before .before .loop-test .taken) (c .before .before .put-outside .ensures)
+loop-again c = let put = c .before .before in gather-turns (turn put .loop .inv) (put .before .before .before .loop-test .taken) (put .put-outside .ensures)
 
 same-length : tie.Need-same-length Inv-loop μ-loop
 same-length c = front-length (c .before .loop .inv .front)

@@ -1,8 +1,8 @@
+-- `is_outside` asks the rectangle of a zone in the table; one beyond it holds no cell.
 use Rattle.tables.specs.GatherLaws.{outside-beyond, outside-in}
 use borrow.Author.Needs.{needs}
 use Rattle.tables.proofs.runs.is_outside.Statement.{statement}
 use Rattle.tables.proofs.runs.is_outside.Tie as tie
-use Rattle.tables.proofs.records.rect_in.Reads as rect-in-reads
 
 mul-if1 : tie.Need-mul-if1
 mul-if1 c = search needs

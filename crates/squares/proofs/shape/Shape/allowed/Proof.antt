@@ -1,6 +1,7 @@
+-- Whether a shape is within the limits: each test is one of them.
 use mathlib.Core.Path.{sym}
 use native.Mathlib.Omega.{arith}
-use Rattle.squares.specs.Shape.{Allowed}
+use Rattle.squares.specs.Bounds.{Allowed}
 use Rattle.squares.specs.ShapeLaws.{→allowed, not-allowed, most→, →most}
 use borrow.Author.Needs.{needs}
 use Rattle.squares.proofs.shape.Shape.allowed.Statement.{statement}

@@ -1,3 +1,4 @@
+-- The block of a cell, by its column and row of blocks.
 use Rattle.squares.specs.ShapeLaws.{blocks-small, block-is}
 use borrow.Author.Needs.{needs}
 use Rattle.squares.proofs.shape.Shape.block.Statement.{statement}

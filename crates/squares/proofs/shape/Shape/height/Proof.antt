@@ -1,3 +1,4 @@
+-- The rows of a town: its blocks times their side.
 use Rattle.squares.specs.ShapeLaws.{height-is}
 use borrow.Author.Needs.{needs}
 use Rattle.squares.proofs.shape.Shape.height.Statement.{statement}

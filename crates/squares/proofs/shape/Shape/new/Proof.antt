@@ -1,3 +1,4 @@
+-- The constructor gives the shape where it is allowed, else 1.
 use mathlib.Core.Path.{sym, _∙_}
 use borrow.Author.Needs.{needs}
 use Rattle.squares.proofs.shape.Shape.new.Statement.{statement}

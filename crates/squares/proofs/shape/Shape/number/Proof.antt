@@ -1,3 +1,4 @@
+-- The number of a cell's square: the block's squares and the bits interleaved.
 use Prim.Native.Nat.{_+_, _*_, _<_}
 use Rattle.squares.specs.ShapeLaws.{tops, number-is, number-small}
 use borrow.Author.Needs.{needs}

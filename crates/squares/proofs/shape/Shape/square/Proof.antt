@@ -1,3 +1,4 @@
+-- The square of a number: its corner from the block and the bits taken apart; nothing on the way wraps.
 use Prim.Native.Nat.{_≤_}
 use native.Mathlib.Omega.{arith}
 use Rattle.squares.specs.Squares.{cornerX, cornerY}
@@ -5,6 +6,13 @@ use Rattle.squares.specs.ShapeLaws.{squares-small, across-fits, place-fi
 use borrow.Author.Needs.{needs}
 use Rattle.squares.proofs.shape.Shape.square.Statement.{statement}
 use Rattle.squares.proofs.shape.Shape.square.Tie as tie
+
+-- from the row back to the powers and the start
+abbrev powers : tie.After-evens-of2 → tie.After-two-to
+powers c = c .before .before .before .before .before
+
+abbrev start : tie.After-two-to → tie.Start
+start c = c .before .before
 
 -- the number is small
 few : (c : tie.Start) → c .args .n ≤ 65536
@@ -26,31 +34,31 @@ rem-column : tie.Need-rem-column
 rem-column c = search needs
 
 mul-column : tie.Need-mul-column
-mul-column c = across-fits _ _ (column-few _ _ _ (few (c .before .before .before .before))) (c .before .before .two-to .ensures .small)
+mul-column c = across-fits _ _ (column-few _ _ _ (few (start (c .before .before)))) (c .before .before .two-to .ensures .small)
 
 evens-of-requires : tie.Need-evens-of-requires
 evens-of-requires c κs = search needs
 
 add-column : tie.Need-add-column
-add-column c = place-fits _ _ _ (column-few _ _ _ (few (c .before .before .before .before .before))) (c .before .before .before .two-to .ensures .small) (omega arith)
+add-column c = place-fits _ _ _ (column-few _ _ _ (few (start (c .before .before .before)))) (c .before .before .before .two-to .ensures .small) (omega arith)
 
 div-row : tie.Need-div-row
 div-row c = search needs
 
 mul-row : tie.Need-mul-row
-mul-row c = across-fits _ _ (row-few _ _ _ (few (c .before .before .before .before .before .before))) (c .before .before .before .before .two-to .ensures .small)
+mul-row c = across-fits _ _ (row-few _ _ _ (few (start (c .before .before .before .before)))) (c .before .before .before .before .two-to .ensures .small)
 
 evens-of-requires-2 : tie.Need-evens-of-requires-2
 evens-of-requires-2 c κs = search needs
 
 add-row : tie.Need-add-row
-add-row c = place-fits _ _ _ (row-few _ _ _ (few (c .before .before .before .before .before .before .before))) (c .before .before .before .before .before .two-to .ensures .small) (omega arith)
+add-row c = place-fits _ _ _ (row-few _ _ _ (few (start (powers c)))) (powers c .two-to .ensures .small) (omega arith)
 
 mul-t9 : tie.Need-mul-t9
-mul-t9 c = corner-fits _ _ _ (column-few _ _ _ (few (c .before .before .before .before .before .before .before))) (c .before .before .before .before .before .two-to .ensures .small) (omega arith) _ (c .before .before .before .before .before .before .side-on .ensures .small)
+mul-t9 c = corner-fits _ _ _ (column-few _ _ _ (few (start (powers c)))) (powers c .two-to .ensures .small) (omega arith) _ (powers c .before .side-on .ensures .small)
 
 mul-t12 : tie.Need-mul-t12
-mul-t12 c = corner-fits _ _ _ (row-few _ _ _ (few (c .before .before .before .before .before .before .before))) (c .before .before .before .before .before .two-to .ensures .small) (omega arith) _ (c .before .before .before .before .before .before .side-on .ensures .small)
+mul-t12 c = corner-fits _ _ _ (row-few _ _ _ (few (start (powers c)))) (powers c .two-to .ensures .small) (omega arith) _ (powers c .before .side-on .ensures .small)
 
 returns : tie.Need-returns
 returns c = unfold cornerX cornerY in rw (c .evens-of2 .ensures .is, c .before .before .evens-of .ensures .is, c .before .before .before .before .four-to .ensures .is, c .before .before .before .before .before .two-to .ensures .is, c .before .before .before .before .before .before .side-on .ensures .is)

@@ -1,3 +1,4 @@
+-- How many squares a town has, and that the product fits.
 use Rattle.squares.specs.ShapeLaws.{blocks-small, squares-is}
 use borrow.Author.Needs.{needs}
 use Rattle.squares.proofs.shape.Shape.squares.Statement.{statement}

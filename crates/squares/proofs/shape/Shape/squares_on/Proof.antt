@@ -1,3 +1,4 @@
+-- How many squares a level has, and that the product fits.
 use Rattle.squares.specs.ShapeLaws.{blocks-small, squares-on-is}
 use borrow.Author.Needs.{needs}
 use Rattle.squares.proofs.shape.Shape.squares_on.Statement.{statement}

@@ -1,3 +1,4 @@
+-- The columns of a town: its blocks times their side.
 use Rattle.squares.specs.ShapeLaws.{width-is}
 use borrow.Author.Needs.{needs}
 use Rattle.squares.proofs.shape.Shape.width.Statement.{statement}

@@ -1,0 +1,5 @@
+pub mod Admits
+pub mod AdmitLaws
+pub mod SeeLaws
+pub mod ReportLaws
+pub mod LeaveLaws

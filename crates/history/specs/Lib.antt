@@ -1,0 +1,5 @@
+pub mod History
+pub mod HistoryLaws
+pub mod Sentences
+pub mod Whole
+pub mod WholeTables

@@ -1,0 +1,1 @@
+// Any sequence of calls: what holds after every history. No code.

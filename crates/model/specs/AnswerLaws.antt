@@ -1,0 +1,74 @@
+-- An answer says which case of its enum it is: two that say the same are the same.
+use Prim.Native.Nat.{ℕ}
+use mathlib.Core.Path.{_≡_, refl, ap, sym, _∙_}
+use mathlib.Core.List.{List, [], _∷_}
+use Rattle.squares.specs.Refusals.{Answer, refuse, accept}
+use Rattle.model.specs.declared.answers.Opened.{Opened}
+use Rattle.model.specs.declared.answers.Added.{Added}
+use Rattle.model.specs.declared.answers.Removed.{Removed}
+use Rattle.model.specs.declared.answers.Reported.{Reported}
+use Rattle.model.specs.declared.answers.Left.{Left}
+use Rattle.model.specs.declared.answers.Searched.{Searched}
+use Rattle.model.specs.declared.answers.RosterOf.{RosterOf}
+use Rattle.model.specs.declared.answers.WhereIs.{WhereIs}
+use Rattle.model.specs.declared.answers.SoundnessOf.{SoundnessOf}
+use Rattle.model.specs.Answers.{Values, openedIs, addedIs, removedIs, reportedIs, leftIs, searchedIs, rosterIs, whereIs, soundnessIs}
+
+pub opened-same : (a b : Opened) → openedIs a ≡ openedIs b → a ≡ b
+opened-same (Opened.Refused n) (Opened.Refused m) e = cc
+opened-same (Opened.Refused n) Opened.Done e = cc
+opened-same Opened.Done (Opened.Refused m) e = cc
+opened-same Opened.Done Opened.Done e = refl
+
+pub added-same : (a b : Added) → addedIs a ≡ addedIs b → a ≡ b
+added-same (Added.Refused n) (Added.Refused m) e = cc
+added-same (Added.Refused n) (Added.Done s c) e = cc
+added-same (Added.Done s c) (Added.Refused m) e = cc
+added-same (Added.Done s c) (Added.Done t d) e = cc
+
+pub removed-same : (a b : Removed) → removedIs a ≡ removedIs b → a ≡ b
+removed-same (Removed.Refused n) (Removed.Refused m) e = cc
+removed-same (Removed.Refused n) Removed.Done e = cc
+removed-same Removed.Done (Removed.Refused m) e = cc
+removed-same Removed.Done Removed.Done e = refl
+
+pub reported-same : (a b : Reported) → reportedIs a ≡ reportedIs b → a ≡ b
+reported-same (Reported.Refused n) (Reported.Refused m) e = cc
+reported-same (Reported.Refused n) (Reported.Done s i o) e = cc
+reported-same (Reported.Done s i o) (Reported.Refused m) e = cc
+reported-same (Reported.Done s i o) (Reported.Done t j p) e = cc
+
+pub left-same : (a b : Left) → leftIs a ≡ leftIs b → a ≡ b
+left-same (Left.Refused n) (Left.Refused m) e = cc
+left-same (Left.Refused n) (Left.Done s i) e = cc
+left-same (Left.Done s i) (Left.Refused m) e = cc
+left-same (Left.Done s i) (Left.Done t j) e = cc
+
+pub searched-same : (a b : Searched) → searchedIs a ≡ searchedIs b → a ≡ b
+searched-same (Searched.Refused n) (Searched.Refused m) e = cc
+searched-same (Searched.Refused n) (Searched.Found s i) e = cc
+searched-same (Searched.Found s i) (Searched.Refused m) e = cc
+searched-same (Searched.Found s i) (Searched.Found t j) e = cc
+
+pub roster-same : (a b : RosterOf) → rosterIs a ≡ rosterIs b → a ≡ b
+roster-same (RosterOf.Refused n) (RosterOf.Refused m) e = cc
+roster-same (RosterOf.Refused n) (RosterOf.Cars i) e = cc
+roster-same (RosterOf.Cars i) (RosterOf.Refused m) e = cc
+roster-same (RosterOf.Cars i) (RosterOf.Cars j) e = cc
+
+pub where-same : (a b : WhereIs) → whereIs a ≡ whereIs b → a ≡ b
+where-same (WhereIs.Refused n) (WhereIs.Refused m) e = cc
+where-same (WhereIs.Refused n) (WhereIs.At p) e = cc
+where-same (WhereIs.At p) (WhereIs.Refused m) e = cc
+where-same (WhereIs.At p) (WhereIs.At q) e = cc
+
+pub soundness-same : (a b : SoundnessOf) → soundnessIs a ≡ soundnessIs b → a ≡ b
+soundness-same (SoundnessOf.Refused n) (SoundnessOf.Refused m) e = cc
+soundness-same (SoundnessOf.Refused n) SoundnessOf.Sound e = cc
+soundness-same (SoundnessOf.Refused n) SoundnessOf.Unsound e = cc
+soundness-same SoundnessOf.Sound (SoundnessOf.Refused m) e = cc
+soundness-same SoundnessOf.Sound SoundnessOf.Sound e = refl
+soundness-same SoundnessOf.Sound SoundnessOf.Unsound e = cc
+soundness-same SoundnessOf.Unsound (SoundnessOf.Refused m) e = cc
+soundness-same SoundnessOf.Unsound SoundnessOf.Sound e = cc
+soundness-same SoundnessOf.Unsound SoundnessOf.Unsound e = refl

@@ -1,0 +1,55 @@
+// What the calls answer: a refusal by its number, or what was asked for.
+use position::Position;
+
+pub enum Opened {
+    Refused(u32),
+    Done,
+}
+
+// How many squares the new zone's cut has, and how many cars are inside.
+pub enum Added {
+    Refused(u32),
+    Done(usize, usize),
+}
+
+pub enum Removed {
+    Refused(u32),
+    Done,
+}
+
+// How many squares were looked into, and how many zones were written as entered and as left.
+pub enum Reported {
+    Refused(u32),
+    Done(u32, usize, usize),
+}
+
+// How many squares were looked into, and how many zones were written as left.
+pub enum Left {
+    Refused(u32),
+    Done(u32, usize),
+}
+
+// How many squares were looked into, and how many zones were written.
+pub enum Searched {
+    Refused(u32),
+    Found(u32, usize),
+}
+
+// How many cars of a roster were written.
+pub enum RosterOf {
+    Refused(u32),
+    Cars(usize),
+}
+
+// Where a car is: its stored position.
+pub enum WhereIs {
+    Refused(u32),
+    At(Position),
+}
+
+// Whether the tables are sound.
+pub enum SoundnessOf {
+    Refused(u32),
+    Sound,
+    Unsound,
+}

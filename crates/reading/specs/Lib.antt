@@ -1,3 +1,0 @@
-pub mod ReadLaws
-pub mod JudgeLaws
-pub mod SearchLaws

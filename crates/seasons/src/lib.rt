@@ -1,1 +1,0 @@
-// Any sequence of calls: this crate has no code, only what specs/ proves of the calls' promises.

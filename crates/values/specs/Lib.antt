@@ -1,0 +1,3 @@
+-- What is told, and its laws.
+pub mod Promises
+pub mod TellLaws

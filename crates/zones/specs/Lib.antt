@@ -1,0 +1,3 @@
+pub mod OpenLaws
+pub mod AddLaws
+pub mod RemoveLaws

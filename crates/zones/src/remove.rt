@@ -1,0 +1,30 @@
+// A zone taken away.
+use model::Removed;
+ghost use Rattle.tables.specs.Lent.{lent};
+ghost use Rattle.promises.specs.Promise.{Keeps};
+ghost use Rattle.promises.specs.Events.{removed};
+
+// Takes a zone away: its entries and its number are free for later zones.
+pub fn remove_zone(
+    head: &[u32],
+    zones: &mut [u32],
+    cars: &[u32],
+    spots: &[f32],
+    starts: &mut [u32],
+    entries: &mut [u32],
+    rosters: &mut [u8],
+    zone: u32,
+) -> Removed
+    ensures { λ r. ⌜ Keeps (lent head zones cars spots starts entries rosters) (removed zone r) ⌝ }
+{
+    let refusal = promises::refuse_zone(head, zones, cars, spots, starts, entries, rosters, zone);
+    if refusal != 0 {
+        return Removed::Refused(refusal);
+    }
+    let z = zone as usize;
+    let many = tables::car_room(head);
+    edits::clear_zone(zones, z);
+    edits::drop_keys(starts, entries, zone);
+    edits::clear_row(rosters, z, many);
+    Removed::Done
+}

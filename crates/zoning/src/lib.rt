@@ -1,9 +1,0 @@
-// A town opened, zones added and taken away.
-mod open; // open.rt: an empty town
-mod add; // add.rt: a zone added
-mod remove; // remove.rt: a zone taken away
-
-pub use add::add_zone;
-pub use open::open_town;
-pub use remove::refuse_zone;
-pub use remove::remove_zone;
