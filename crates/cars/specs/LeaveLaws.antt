@@ -14,7 +14,8 @@ use Rattle.squares.specs.Refusals.{first}
 use Rattle.squares.specs.RefusalLaws.{clear}
 use Rattle.position.specs.declared.Position.{Position}
 use Rattle.position.specs.declared.Spot.{Spot}
-use Rattle.position.specs.Answer.{onTown, columnOf, rowOf, spotOn}
+use Rattle.position.specs.Answer.{onTown, columnOf, rowOf}
+use Rattle.position.specs.Spots.{spotOn}
 use Rattle.position.specs.Laws.{column-below, row-below}
 use Rattle.model.specs.declared.answers.Left.{Left}
 use Rattle.model.specs.Answers.{numbers, leftIs}

@@ -20,7 +20,8 @@ use Rattle.squares.specs.ShapeLaws.{→allowed}
 use Rattle.squares.specs.DifferLaws.{differ-count}
 use Rattle.position.specs.declared.Position.{Position}
 use Rattle.position.specs.declared.Spot.{Spot}
-use Rattle.position.specs.Answer.{onTown, columnOf, rowOf, spotOn}
+use Rattle.position.specs.Answer.{onTown, columnOf, rowOf}
+use Rattle.position.specs.Spots.{spotOn}
 use Rattle.position.specs.Laws.{column-below, row-below, off-town, on-town}
 use Rattle.model.specs.Model.{zonesAt, zonesEntered, zonesLeft, looked}
 use Rattle.tables.specs.Tables.{Tables, shapeOf, zoneRoom, placedIn, placed, spotIn, spotOf, carIn, townOf, zoneHolds}

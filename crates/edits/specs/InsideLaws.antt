@@ -19,7 +19,7 @@ use Rattle.squares.specs.Bounds.{Allowed}
 use Rattle.squares.specs.Cut.{holds}
 use Rattle.squares.specs.ShapeLaws.{→allowed}
 use Rattle.position.specs.declared.Spot.{Spot}
-use Rattle.position.specs.Answer.{spotOn}
+use Rattle.position.specs.Spots.{spotOn}
 use Rattle.position.specs.Laws.{off-town, on-town}
 use Rattle.tables.specs.Tables.{placedIn, spotIn}
 use Rattle.tables.specs.Rows.{RowThere}

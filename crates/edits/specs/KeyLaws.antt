@@ -8,9 +8,11 @@ use native.Mathlib.Nat.{add-zero, add-suc, zero-add, div-add-mod'}
 use lib.Arith.{digits-div, digits-mod}
 use lib.ListN.{length, getD, take, drop, length-map, length-append, length-take, length-drop, List·getD-append}
 use lib.Seq.{getD-append-add, getD-drop, length-take-le}
-use Rattle.order.specs.Order.{upto, span, keep, Rising, none, more}
+use Rattle.order.specs.Order.{upto, span, keep}
+use Rattle.order.specs.Rising.{Rising, none, more}
 use Rattle.order.specs.RisingLaws.{rising-span, rising-keep, member-at}
-use Rattle.order.specs.Buffer.{rank, Wrote}
+use Rattle.order.specs.Buffer.{rank}
+use Rattle.order.specs.Order.{Wrote}
 use Rattle.order.specs.BufferLaws.{take-over, drop-over, wrote-over, wrote-length}
 use Rattle.order.specs.KeepLaws.{span-add, span→, →span, keep→, →keep, keep-append, keep-ext, length-keep, length-span}
 use Rattle.squares.specs.declared.shape.Shape.{Shape}

@@ -4,7 +4,7 @@ use mathlib.Core.Path.{_≡_}
 use mathlib.Core.Logic.{_⊎_}
 use mathlib.Core.List.{List, List·Memᴰ}
 use lib.ListN.{length, take, drop}
-use Rattle.order.specs.Order.{Rising}
+use Rattle.order.specs.Rising.{Rising}
 
 -- a and b rise and have no number in common
 pub record Apart (a b : List ℕ) : Type 0 where

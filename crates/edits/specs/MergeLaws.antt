@@ -9,7 +9,7 @@ use native.Mathlib.Nat.{add-zero}
 use lib.ListN.{length, getD, take, drop, set, length-append, length-set, take-append-drop, List·getD-append}
 use lib.Seq.{length-take-le, take-suc, take-take, take-at, drop-at, getD-take, append-snoc, set-at, take-all}
 use borrow.Author.Tests.{ne-eqb, ltb-true, ltb-false}
-use Rattle.order.specs.Order.{Rising, none, more}
+use Rattle.order.specs.Rising.{Rising, none, more}
 use Rattle.order.specs.TestLaws.{lt-or-le, true-not-false}
 use Rattle.order.specs.RisingLaws.{member-at}
 use Rattle.order.specs.Buffer.{endsBelow}

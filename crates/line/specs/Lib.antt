@@ -2,6 +2,7 @@ pub mod Split
 pub mod Grammar
 pub mod Text
 pub mod Lines
+pub mod Takes
 pub mod Fields
 pub mod Leaves
 pub mod SplitLaws

@@ -17,7 +17,8 @@ use Rattle.line.specs.Fields.{front}
 use Rattle.line.specs.Leaves.{Ends, Holds}
 use Rattle.line.specs.SplitLaws.{front-take}
 use Rattle.line.specs.RecordLaws.{meaning-long}
-use Rattle.line.specs.Lines.{last, trimmed, lines, Fed, before, feed, ending, Room, Takes}
+use Rattle.line.specs.Lines.{last, trimmed, lines, Fed, before, feed, ending}
+use Rattle.line.specs.Takes.{Room, Takes}
 
 -- ---- the pieces do not matter
 

@@ -1,10 +1,9 @@
 -- The lines of an input, and how they come out of it byte by byte.
-use Prim.Native.Nat.{ℕ, _<_, _≤_}
-use mathlib.Core.Path.{_≡_}
-use mathlib.Core.Bool.{Bool, true, false, cond}
+use Prim.Native.Nat.{ℕ}
+use mathlib.Core.Bool.{cond}
 use mathlib.Core.List.{List, [], _∷_, _++_}
 use lib.Dec.{eqb}
-use lib.ListN.{length, take, drop}
+use lib.ListN.{take}
 use Rattle.line.specs.Split.{split}
 
 -- a last part is a line where it is not empty
@@ -39,21 +38,3 @@ feed h (b ∷ l) = cond (eqb b 10) (before (h ∷ []) (feed [] l)) (feed (take 8
 -- all lines, where the input ends here
 abbrev pub ending : Fed → List (List ℕ)
 ending f = f .ended ++ last (f .held)
-
--- ---- a line taken from a piece
-
--- a buffer for a line, of which n bytes are held
-pub record Room (b : List ℕ) (n : ℕ) : Type 0 where
-  pub few : n ≤ 81
-  pub long : 81 ≤ length b
-
--- from place `at` of the piece p, with the first n bytes of the buffer b held, up to `next`; r bytes are held then
-pub record Takes (p : List ℕ) (at : ℕ) (b b′ : List ℕ) (n next r : ℕ) (whole : Bool) : Type 0 where
-  pub within : next ≤ length p
-  pub further : at < length p → at < next
-  pub most : r ≤ 81
-  pub room : length b′ ≡ length b
-  -- a feed came: what is held is a line
-  pub line : whole ≡ true → feed (take n b) (drop at p) ≡ before (take r b′ ∷ []) (feed [] (drop next p))
-  -- none came: the piece is at its end
-  pub part : whole ≡ false → (next ≡ length p) × (feed (take n b) (drop at p) ≡ record { ended = []; held = take r b′ })

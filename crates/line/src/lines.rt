@@ -3,7 +3,7 @@ use crate::scan::end_of;
 ghost use Prim.Native.Nat.{_≤_};
 ghost use lib.ListN.{length};
 ghost use Rattle.line.specs.Leaves.{Holds};
-ghost use Rattle.line.specs.Lines.{Room, Takes};
+ghost use Rattle.line.specs.Takes.{Room, Takes};
 
 // Up to where a piece was taken, how many bytes are held, and whether they are a whole line.
 pub struct Taken {

@@ -10,7 +10,8 @@ use Rattle.order.specs.TestLaws.{true-not-false}
 use Rattle.squares.specs.Shape.{allowed}
 use Rattle.tables.specs.Tables.{Tables, tables, shapeOf}
 use Rattle.tables.specs.Lent.{both}
-use Rattle.line.specs.Lines.{Room, Takes, last, feed, Fed as State}
+use Rattle.line.specs.Lines.{last, feed, Fed as State}
+use Rattle.line.specs.Takes.{Room, Takes}
 use Rattle.replay.specs.Room.{Ready}
 use Rattle.log.specs.declared.Held.{Held}
 use Rattle.log.specs.Pieces.{afterLines, Answered, Fed, Feeds}

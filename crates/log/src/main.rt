@@ -5,7 +5,8 @@ ghost use Prim.Native.Nat.{_≤_};
 ghost use mathlib.Core.Path.{_≡_};
 ghost use lib.ListN.{length};
 ghost use Rattle.tables.specs.Lent.{lent, given};
-ghost use Rattle.line.specs.Lines.{Room, last};
+ghost use Rattle.line.specs.Lines.{last};
+ghost use Rattle.line.specs.Takes.{Room};
 ghost use Rattle.replay.specs.Room.{Ready};
 ghost use Rattle.log.specs.Pieces.{afterLines, Answered, Feeds};
 

@@ -10,7 +10,8 @@ use Rattle.squares.specs.Leaves.{OnMap}
 use Rattle.squares.specs.ShapeLaws.{→allowed}
 use Rattle.position.specs.declared.Position.{Position}
 use Rattle.position.specs.declared.Spot.{Spot}
-use Rattle.position.specs.Answer.{onTown, columnOf, rowOf, spotOn}
+use Rattle.position.specs.Answer.{onTown, columnOf, rowOf}
+use Rattle.position.specs.Spots.{spotOn}
 use Rattle.position.specs.Laws.{column-below, row-below, off-town, on-town}
 use Rattle.tables.specs.Tables.{Tables, shapeOf}
 use Rattle.tables.specs.Sizes.{Sized}

@@ -42,6 +42,7 @@ abbrev pub there : {A : Type 0} → Option A → (A → Bool) → Bool
 there none test = false
 there (some a) test = test a
 
+-- there is one: a zone stands, a car is on the map
 abbrev pub known : {A : Type 0} → Option A → Bool
 known none = false
 known (some a) = true

@@ -5,8 +5,8 @@ use mathlib.Core.Bool.{Bool, true, cond}
 use mathlib.Core.List.{List, [], _∷_}
 use lib.Dec.{ltb, eqb}
 use lib.ListN.{length, getD, take}
-use lib.Seq.{sets}
-use Rattle.order.specs.Order.{insert, over}
+use Rattle.order.specs.Order.{over}
+use Rattle.order.specs.Rising.{insert}
 
 -- how many numbers at the front of a list are below x
 unfoldable pub rank : ℕ → List ℕ → ℕ
@@ -29,8 +29,3 @@ putIn room x l = cond (ltb (length l) room) (insert x l) l
 pub record Put (b b′ : List ℕ) (n x r : ℕ) : Type 0 where
   pub written : b′ ≡ over (putIn (length b) x (take n b)) b
   pub count : r ≡ length (putIn (length b) x (take n b))
-
--- a list stored from place `at` on, as far as the buffer goes; the answer is the place after it
-pub record Wrote (b b′ : List ℕ) (at r : ℕ) (l : List ℕ) : Type 0 where
-  pub stored : b′ ≡ sets b at l
-  pub next : r ≡ at + length l

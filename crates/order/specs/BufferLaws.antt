@@ -12,8 +12,10 @@ use lib.ListN.{length, getD, take, drop, set, length-append, length-drop, take-a
 use lib.Seq.{sets, sets-eq, length-sets, drop-cons, take-suc, set-at, length-take-le, take-at, drop-at, drop-drop, append-snoc, getD-at, drop-append-add, drop-length, take-take, getD-take}
 use borrow.Author.Tests.{lt-ltb, le-ltb}
 use borrow.Rule.Slice.PartMut.{midOf, putMid}
-use Rattle.order.specs.Order.{upto, keep, insert, over}
-use Rattle.order.specs.Buffer.{rank, Ranked, Put, Wrote, putIn}
+use Rattle.order.specs.Order.{upto, keep, over}
+use Rattle.order.specs.Rising.{insert}
+use Rattle.order.specs.Buffer.{rank, Ranked, Put, putIn}
+use Rattle.order.specs.Order.{Wrote}
 use Rattle.order.specs.TestLaws.{lt-or-le, lt-or-eq-or-gt}
 use Rattle.order.specs.KeepLaws.{keep→, keep-all, keep-full, length-span}
 use Rattle.order.specs.RisingLaws.{insert-below, insert-there, insert-above, insert-length, insert-keep}

@@ -1,5 +1,6 @@
 pub mod Order
 pub mod Sums
+pub mod Rising
 pub mod Buffer
 pub mod TestLaws
 pub mod KeepLaws

@@ -8,7 +8,8 @@ use native.Mathlib.Omega.{arith}
 use lib.Dec.{ltb}
 use lib.ListN.{length, getD}
 use borrow.Author.Tests.{lt-ltb, le-ltb, eq-eqb, ne-eqb}
-use Rattle.order.specs.Order.{upto, span, keep, Rising, more}
+use Rattle.order.specs.Order.{upto, span, keep}
+use Rattle.order.specs.Rising.{Rising, more}
 use Rattle.order.specs.Buffer.{rank, endsBelow}
 use Rattle.order.specs.TestLaws.{lt-or-le}
 use Rattle.order.specs.KeepLaws.{span→, span-add, keep→, keep-append}

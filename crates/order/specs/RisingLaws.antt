@@ -8,7 +8,8 @@ use native.Mathlib.Omega.{arith}
 use lib.Dec.{eqb}
 use lib.ListN.{length, getD}
 use borrow.Author.Tests.{lt-ltb, le-ltb, eq-eqb, ne-eqb}
-use Rattle.order.specs.Order.{span, upto, keep, Rising, none, more, insert}
+use Rattle.order.specs.Order.{span, upto, keep}
+use Rattle.order.specs.Rising.{Rising, none, more, insert}
 use Rattle.order.specs.TestLaws.{lt-or-eq-or-gt}
 use Rattle.order.specs.KeepLaws.{span→, →span, keep→, →keep}
 

@@ -7,7 +7,7 @@ use lib.Dec.{T}
 use lib.Ieee.{Float, nan, inf, fin, binary32, toBits, isNan, ne}
 use lib.Ieee.Compare.{differs-from-itself, nan-differs}
 use Rattle.position.specs.Cell.{whole, inRange, onMap, cellOf}
-use Rattle.position.specs.Answer.{coordinateOn}
+use Rattle.position.specs.Spots.{coordinateOn}
 use Rattle.position.specs.Exact.{nan-off}
 use Rattle.position.specs.declared.Coordinate.{Coordinate}
 

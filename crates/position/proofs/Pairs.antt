@@ -4,7 +4,8 @@ use mathlib.Core.Bool.{Bool, true, false, _&&_, cond}
 use Rattle.squares.specs.declared.shape.Shape.{Shape}
 use Rattle.squares.specs.Shape.{width, height, allowed}
 use Rattle.position.specs.Cell.{onMap, cellOf}
-use Rattle.position.specs.Answer.{coordinateOn, onTown, columnOf, rowOf, spotOn}
+use Rattle.position.specs.Answer.{onTown, columnOf, rowOf}
+use Rattle.position.specs.Spots.{coordinateOn, spotOn}
 use Rattle.position.specs.declared.Position.{Position}
 use Rattle.position.specs.declared.Coordinate.{Coordinate}
 use Rattle.position.specs.declared.Spot.{Spot}

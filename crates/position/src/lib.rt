@@ -6,7 +6,7 @@ ghost use mathlib.Core.Bool.{cond};
 ghost use Prim.Native.Nat.{_*_, _/_, _^_, _<_, _≤_};
 ghost use lib.Ieee.{binary32, ofBits};
 ghost use Rattle.position.specs.Cell.{whole, inRange};
-ghost use Rattle.position.specs.Answer.{coordinateOn, spotOn};
+ghost use Rattle.position.specs.Spots.{coordinateOn, spotOn};
 
 // Two coordinates kept together: x counts from the west wall, y from the south wall.
 pub struct Position {

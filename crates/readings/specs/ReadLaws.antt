@@ -8,7 +8,7 @@ use native.Mathlib.Omega.{arith}
 use lib.ListN.{length}
 use borrow.Author.Tests.{leb-true, ltb-true}
 use Rattle.order.specs.Order.{upto, over}
-use Rattle.order.specs.Buffer.{Wrote}
+use Rattle.order.specs.Order.{Wrote}
 use Rattle.order.specs.BufferLaws.{wrote-over}
 use Rattle.order.specs.KeepLaws.{length-keep, length-span}
 use Rattle.squares.specs.Refusals.{first}

@@ -18,7 +18,8 @@ use Rattle.model.specs.Answers.{Values}
 use Rattle.model.specs.Model.{Town, entriesUsed, Call, opening, adding, removing, reporting, leaving, searching, askRoster, askWhere, askSoundness, Lengths, Meaning, meaning, barred, outcome}
 use Rattle.tables.specs.Tables.{Tables, shapeOf, townOf, carRoom, entryRoom}
 use Rattle.line.specs.Text.{answer}
-use Rattle.texts.specs.Texts.{valueAt, valueOf}
+use Rattle.texts.specs.Texts.{valueAt}
+use Rattle.texts.specs.Asks.{valueOf}
 use Rattle.replay.specs.Room.{part, Ready}
 use Rattle.replay.specs.Replies.{roomOf, outcomeOf}
 use Rattle.replay.specs.RoomLaws.{part-sound, cars-64, entries-2048}

@@ -16,7 +16,8 @@ use Rattle.squares.specs.Bounds.{Allowed}
 use Rattle.squares.specs.Cut.{holds}
 use Rattle.squares.specs.ShapeLaws.{→allowed}
 use Rattle.position.specs.declared.Spot.{Spot}
-use Rattle.position.specs.Answer.{onTown, spotOn}
+use Rattle.position.specs.Answer.{onTown}
+use Rattle.position.specs.Spots.{spotOn}
 use Rattle.position.specs.Laws.{off-town, on-town}
 use Rattle.tables.specs.Tables.{rectIn, placedIn, spotIn}
 use Rattle.soundness.specs.Tests.{carFits, has, byteRight, Riding}

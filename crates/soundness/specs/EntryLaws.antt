@@ -11,7 +11,8 @@ use borrow.Author.Tests.{lt-ltb, le-ltb}
 use Rattle.squares.specs.declared.shape.Shape.{Shape}
 use Rattle.squares.specs.declared.shape.Rect.{Rect}
 use Rattle.squares.specs.declared.shape.Square.{Square}
-use Rattle.squares.specs.Squares.{squares, squaresOn, squareOf}
+use Rattle.squares.specs.Squares.{squares, squaresOn}
+use Rattle.squares.specs.Made.{squareOf}
 use Rattle.squares.specs.Cut.{within, inside, inCut}
 use Rattle.squares.specs.Leaves.{Near}
 use Rattle.squares.specs.ShapeLaws.{blocks-small, squares-small}

@@ -11,7 +11,8 @@ use lib.Ieee.{Float}
 use lib.ListN.{length, getD, take, drop, replicate, length-append, length-drop, length-replicate, getD-replicate, take-append-drop, List·getD-eq-default}
 use lib.Seq.{take-at, drop-at, length-take-le, getD-take, ext-getD}
 use borrow.Author.Tests.{le-leb, lt-ltb, eq-eqb, leb-true, ltb-true, eqb-true}
-use Rattle.order.specs.Order.{upto, Rising}
+use Rattle.order.specs.Order.{upto}
+use Rattle.order.specs.Rising.{Rising}
 use Rattle.order.specs.Sums.{sum, bit}
 use Rattle.order.specs.Buffer.{rank}
 use Rattle.order.specs.RankLaws.{rank-keep}

@@ -9,7 +9,7 @@ use lib.Dec.{leb, ltb, eqb}
 use lib.ListN.{length, getD, take}
 use lib.Seq.{length-take-le, getD-take}
 use borrow.Author.Tests.{le-leb, lt-leb, lt-ltb, eq-eqb, ne-eqb, leb-true, ltb-true}
-use Rattle.order.specs.Order.{Rising}
+use Rattle.order.specs.Rising.{Rising}
 use Rattle.order.specs.Buffer.{rank, endsBelow}
 use Rattle.order.specs.RankLaws.{rank-is, rank-low, rank-high}
 use Rattle.order.specs.BufferLaws.{rank-le}

@@ -5,6 +5,7 @@ pub mod Cut
 pub mod Refusals
 pub mod Promises
 pub mod Bounds
+pub mod Made
 pub mod Leaves
 pub mod Descent
 pub mod Count

@@ -6,7 +6,7 @@ use native.Mathlib.Omega.{arith}
 use native.Mathlib.Numerals.{add-one}
 use native.Mathlib.Nat.{mul-le-mul-right, add-mul, suc-mul, mul-comm, mul-assoc, le-trans, le-mul-of-pos-right}
 use lib.Arith.{digits-lt}
-use Rattle.order.specs.Buffer.{Wrote}
+use Rattle.order.specs.Order.{Wrote}
 use Rattle.order.specs.BufferLaws.{wrote-none, wrote-more}
 use Rattle.squares.specs.declared.shape.Shape.{Shape}
 use Rattle.squares.specs.declared.shape.Rect.{Rect}

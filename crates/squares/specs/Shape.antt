@@ -1,10 +1,9 @@
 -- A town's shape and rectangle as document 01 has them, with the limits.
 use Prim.Native.Nat.{ℕ, _+_, _*_, _^_}
-use mathlib.Core.Bool.{Bool, cond, _&&_}
+use mathlib.Core.Bool.{Bool, _&&_}
 use lib.Dec.{leb, ltb}
 use Rattle.squares.specs.declared.shape.Shape.{Shape}
 use Rattle.squares.specs.declared.shape.Rect.{Rect}
-use Rattle.squares.specs.declared.shape.Shaped.{Shaped}
 
 -- the limits
 abbrev pub largestK : ℕ
@@ -39,10 +38,6 @@ height s = s .Q * side s
 -- within the limits
 abbrev pub allowed : Shape → Bool
 allowed s = leb (s .k) largestK && (ltb 0 (s .P) && (ltb 0 (s .Q) && (leb (width s) largestSide && leb (height s) largestSide)))
-
--- the answer to k, P and Q
-abbrev pub shaped : ℕ → ℕ → ℕ → Shaped
-shaped k P Q = cond (allowed (shape k P Q)) (Shaped.Allowed (shape k P Q)) (Shaped.Refused 1)
 
 -- a rectangle has cells and lies in the town: what check 9 asks
 abbrev pub fits : Shape → Rect → Bool

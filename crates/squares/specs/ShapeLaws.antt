@@ -15,7 +15,8 @@ use Rattle.order.specs.TestLaws.{and→, fails}
 use Rattle.squares.specs.declared.shape.Shape.{Shape}
 use Rattle.squares.specs.declared.shape.Rect.{Rect}
 use Rattle.squares.specs.declared.shape.Shaped.{Shaped}
-use Rattle.squares.specs.Shape.{largestK, largestSide, shape, side, width, height, allowed, shaped, fits}
+use Rattle.squares.specs.Shape.{largestK, largestSide, shape, side, width, height, allowed, fits}
+use Rattle.squares.specs.Made.{shaped}
 use Rattle.squares.specs.Bounds.{Allowed, Fits as InTown}
 use Rattle.squares.specs.Squares.{sideOn, squaresOn, squares, isCorner, block, number, interleave}
 use Rattle.squares.specs.Leaves.{Positive, Below, Bits, OnLevel}

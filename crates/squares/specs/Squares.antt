@@ -5,7 +5,6 @@ use mathlib.Core.List.{List}
 use lib.Dec.{leb, ltb, eqb}
 use Rattle.order.specs.Order.{upto, keep}
 use Rattle.squares.specs.declared.shape.Shape.{Shape}
-use Rattle.squares.specs.declared.shape.Square.{Square}
 use Rattle.squares.specs.Shape.{side, width, height}
 
 -- the side of a square
@@ -46,9 +45,6 @@ cornerX s i n = (n / 4 ^ i % s .P * 2 ^ i + evens i n) * sideOn s i
 
 unfoldable pub cornerY : Shape → ℕ → ℕ → ℕ
 cornerY s i n = (n / 4 ^ i / s .P * 2 ^ i + evens i (n / 2)) * sideOn s i
-
-abbrev pub squareOf : Shape → ℕ → ℕ → Square
-squareOf s i n = record { x = cornerX s i n; y = cornerY s i n; side = sideOn s i }
 
 -- (x, y) is the southwest corner of a square on level i
 abbrev pub isCorner : Shape → ℕ → ℕ → ℕ → Bool

@@ -14,7 +14,7 @@ use borrow.Rule.Slice.PartMut.{putMid}
 use borrow.Author.Tests.{lt-ltb, le-ltb}
 use Rattle.order.specs.Order.{span, upto, keep}
 use Rattle.order.specs.Sums.{bit}
-use Rattle.order.specs.Buffer.{Wrote}
+use Rattle.order.specs.Order.{Wrote}
 use Rattle.order.specs.BufferLaws.{wrote-none, wrote-more}
 use Rattle.order.specs.KeepLaws.{span-add, keep-append, keep-ext, span→, length-span}
 use Rattle.tables.specs.Tables.{Tables, zoneRoom, carRoom, rosterHas}

@@ -5,7 +5,7 @@ use mathlib.Core.List.{List, [], _∷_}
 use lib.Dec.{ltb}
 use lib.ListN.{length, getD}
 use Rattle.order.specs.Order.{upto, keep}
-use Rattle.order.specs.Buffer.{Wrote}
+use Rattle.order.specs.Order.{Wrote}
 
 abbrev pub marked : List ℕ → ℕ → ℕ → Bool
 marked rosters from c = ltb 0 (getD rosters (from + c) 0)

@@ -1,6 +1,6 @@
 // A row of the rosters, read.
 ghost use Prim.Native.Nat.{_+_, _*_, _≤_};
-ghost use Rattle.order.specs.Buffer.{Wrote};
+ghost use Rattle.order.specs.Order.{Wrote};
 ghost use Rattle.tables.specs.Rows.{row, Adds, RowThere};
 
 // Stores car c where its byte is not 0. Answers the next place.

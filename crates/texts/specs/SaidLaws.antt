@@ -9,7 +9,8 @@ use Rattle.squares.specs.Refusals.{Answer}
 use Rattle.model.specs.Answers.{Values}
 use Rattle.line.specs.Text.{Answers}
 use Rattle.line.specs.TextLaws.{answers-as}
-use Rattle.texts.specs.Texts.{Letter, partsOf, textOf, valueOf}
+use Rattle.texts.specs.Texts.{Letter, partsOf, textOf}
+use Rattle.texts.specs.Asks.{valueOf}
 
 module _ {A : Type 0} (is : A → Answer Values) {said case : A} (e : said ≡ case) where
   pub said-text : (letter : Letter) (buffers : List (List ℕ)) {b b′ : List ℕ} {n : ℕ} → Answers b b′ n (textOf letter (is case) buffers) → Answers b b′ n (textOf letter (is said) buffers)

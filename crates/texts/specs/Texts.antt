@@ -50,8 +50,3 @@ partsOf letter (accept v) buffers = number 0 ∷ fields letter v buffers
 
 abbrev pub textOf : Letter → Answer Values → List (List ℕ) → List ℕ
 textOf letter said buffers = answer (byte letter) (partsOf letter said buffers)
-
--- value i of an answer, 0 where it is a refusal
-abbrev pub valueOf : ℕ → Answer Values → ℕ
-valueOf i (refuse n) = 0
-valueOf i (accept v) = valueAt i v

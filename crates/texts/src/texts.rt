@@ -16,7 +16,8 @@ ghost use mathlib.Core.List.{[], _∷_};
 ghost use lib.ListN.{length};
 ghost use Rattle.model.specs.Answers.{openedIs, addedIs, removedIs, reportedIs, leftIs, searchedIs, rosterIs};
 ghost use Rattle.line.specs.Text.{Answers};
-ghost use Rattle.texts.specs.Texts.{Letter, textOf, valueOf};
+ghost use Rattle.texts.specs.Texts.{Letter, textOf};
+ghost use Rattle.texts.specs.Asks.{valueOf};
 
 // M: no field.
 pub fn write_opened(said: Opened, out: &mut [u8]) -> usize

@@ -4,7 +4,7 @@ use mathlib.Core.Path.{_≡_, sym, _∙_}
 use borrow.Author.Tests.{not-true, not-false}
 use Rattle.squares.specs.Shape.{allowed, width, height}
 use Rattle.squares.specs.ShapeLaws.{allowed→}
-use Rattle.position.specs.Answer.{coordinateOn}
+use Rattle.position.specs.Spots.{coordinateOn}
 use Rattle.position.proofs.Pairs.{by-pair, no-town}
 use borrow.Author.Needs.{needs}
 use Rattle.position.proofs.locate.Statement.{statement}

@@ -2,7 +2,7 @@
 use mathlib.Core.Path.{_≡_, ap, sym, _∙_}
 use mathlib.Core.Bool.{true}
 use borrow.Author.Tests.{not-true, not-false}
-use Rattle.position.specs.Answer.{spotOn}
+use Rattle.position.specs.Spots.{spotOn}
 use Rattle.tables.specs.Tables.{placedIn, spotIn}
 use Rattle.edits.specs.InsideLaws.{in-away, in-off, in-on}
 use borrow.Author.Needs.{needs}

@@ -1,6 +1,6 @@
 -- `car_fits`: a car that is not placed passes, and of one that is placed the position is asked.
 use mathlib.Core.Path.{_≡_, ap, sym, _∙_}
-use Rattle.position.specs.Answer.{spotOn}
+use Rattle.position.specs.Spots.{spotOn}
 use Rattle.tables.specs.Tables.{spotIn}
 use Rattle.soundness.specs.CarLaws.{car-away, car-off, car-on}
 use borrow.Author.Needs.{needs}

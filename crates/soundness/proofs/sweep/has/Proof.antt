@@ -1,6 +1,6 @@
 -- `has`: the car is placed, the zone stands, and its rectangle holds the car's cell.
 use mathlib.Core.Path.{_≡_, ap, sym, _∙_}
-use Rattle.position.specs.Answer.{spotOn}
+use Rattle.position.specs.Spots.{spotOn}
 use Rattle.tables.specs.Tables.{spotIn}
 use Rattle.soundness.specs.CarLaws.{has-away, has-down, has-off, has-on}
 use borrow.Author.Needs.{needs}

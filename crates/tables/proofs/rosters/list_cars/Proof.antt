@@ -2,7 +2,7 @@
 use Prim.Native.Nat.{_-_, _≤_}
 use mathlib.Core.Path.{_≡_}
 use native.Mathlib.Omega.{arith}
-use Rattle.order.specs.Buffer.{Wrote}
+use Rattle.order.specs.Order.{Wrote}
 use Rattle.order.specs.BufferLaws.{wrote-length}
 use Rattle.tables.specs.Rows.{row}
 use Rattle.tables.specs.RowLaws.{row-start, row-turn}

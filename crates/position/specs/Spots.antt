@@ -1,0 +1,19 @@
+-- What the functions that find a cell answer.
+use Prim.Native.Nat.{ℕ}
+use mathlib.Core.Bool.{_&&_, cond}
+use lib.Ieee.{Float}
+use Rattle.squares.specs.declared.shape.Shape.{Shape}
+use Rattle.squares.specs.Shape.{allowed}
+use Rattle.position.specs.Cell.{onMap, cellOf}
+use Rattle.position.specs.Answer.{onTown, columnOf, rowOf}
+use Rattle.position.specs.declared.Position.{Position}
+use Rattle.position.specs.declared.Coordinate.{Coordinate}
+use Rattle.position.specs.declared.Spot.{Spot}
+
+-- a coordinate's answer, on a side
+unfoldable pub coordinateOn : ℕ → Float → Coordinate
+coordinateOn side x = cond (onMap side x) (Coordinate.Cell (cellOf x)) Coordinate.Off
+
+-- a position's answer; a shape beyond the bounds has no map
+unfoldable pub spotOn : Shape → Position → Spot
+spotOn s p = cond (allowed s && onTown s p) (Spot.Cell (columnOf s p) (rowOf s p)) Spot.Off
