@@ -251,6 +251,53 @@ uint32_t unwadegiro_square(uint32_t k, uint32_t P, uint32_t Q, uint32_t level, u
 uint32_t unwadegiro_cut(uint32_t k, uint32_t P, uint32_t Q, uint32_t a, uint32_t b, uint32_t w, uint32_t h,
                         uint32_t *squares, size_t squares_len, uint32_t *values, size_t values_len);
 
+/*
+ * The log. unwadegiro_log answers a piece of a log, which is cut anywhere, and unwadegiro_log_end its end: docs/LOG.md has
+ * the records and the answers. The log's town has room for 64 by 64 cells, 16 zones, 64 cars and 2,048 entries; an M opens
+ * it anew. What a log has, between calls, is the seven tables, of these lengths whatever the shape, and `held`: 82 bytes,
+ * the last of which says how many of the others are the beginning of a line that has not ended. All are 0 at the start.
+ *
+ * Lines are answered into `out` as long as UNWADEGIRO_LOG_OUT bytes of it are free, which every answer fits; then no more
+ * is read. So a caller writes out what it got, and calls again with the rest of the piece until all of it is read: each
+ * call reads one byte at least, unless the piece is empty. However the log is cut, the answers, one after another, are
+ * those of the whole. Where the log cannot be read to its end, do not call unwadegiro_log_end: half a line may be another.
+ *
+ * Values, 2, of size_t: how many bytes of `piece` were read; how many bytes at the front of `out` were written. The rest of
+ * `out` keeps its bytes.
+ * Refusals: 3 where a table or `held` has not its length, or the last byte of `held` is above 81; 11 where `out` is shorter
+ * than UNWADEGIRO_LOG_OUT. A record's own refusal stands in its answer.
+ *
+ * Between two calls the town may be looked at with the other calls. They want `starts` as long as the shape asks
+ * (unwadegiro_lengths): lend the first of the log's.
+ */
+#define UNWADEGIRO_LOG_HEAD 6u
+#define UNWADEGIRO_LOG_ZONES 64u
+#define UNWADEGIRO_LOG_CARS 64u
+#define UNWADEGIRO_LOG_SPOTS 128u
+#define UNWADEGIRO_LOG_STARTS 5462u
+#define UNWADEGIRO_LOG_ENTRIES 2048u
+#define UNWADEGIRO_LOG_ROSTERS 1024u
+#define UNWADEGIRO_LOG_HELD 82u
+#define UNWADEGIRO_LOG_OUT 768u
+
+uint32_t unwadegiro_log(uint32_t *head, size_t head_len, uint32_t *zones, size_t zones_len, uint32_t *cars,
+                        size_t cars_len, float *spots, size_t spots_len, uint32_t *starts, size_t starts_len,
+                        uint32_t *entries, size_t entries_len, uint8_t *rosters, size_t rosters_len,
+                        const uint8_t *piece, size_t piece_len, uint8_t *held, size_t held_len, uint8_t *out,
+                        size_t out_len, size_t *values, size_t values_len);
+
+/*
+ * The log's end: what is held is its last line, without a feed, and is answered; where nothing is held, nothing is
+ * written. `held` is all 0 then, and another piece would go on in the same town.
+ * Values, 2: 0; how many bytes at the front of `out` were written.
+ * Refusals: 3, 11, as above.
+ */
+uint32_t unwadegiro_log_end(uint32_t *head, size_t head_len, uint32_t *zones, size_t zones_len, uint32_t *cars,
+                            size_t cars_len, float *spots, size_t spots_len, uint32_t *starts, size_t starts_len,
+                            uint32_t *entries, size_t entries_len, uint8_t *rosters, size_t rosters_len,
+                            uint8_t *held, size_t held_len, uint8_t *out, size_t out_len, size_t *values,
+                            size_t values_len);
+
 #ifdef __cplusplus
 }
 #endif

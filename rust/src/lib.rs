@@ -6,12 +6,14 @@
 //! The work is done by a library that is proved to do what its documents say; this crate owns the tables that it is lent
 //! and makes its calls safe. The archive to link is made by `./archive` at the root of the repository.
 
+mod log;
 mod refusal;
 mod squares;
 mod town;
 
 pub mod raw;
 
+pub use log::Log;
 pub use refusal::Refusal;
 pub use squares::{cut, number, square, Rectangle, Shape, Square, LEVEL};
-pub use town::{Added, Capacities, Left, Found, Position, Reported, Town};
+pub use town::{Added, Capacities, Found, Left, Position, Reported, Town};

@@ -48,6 +48,13 @@ table_calls! {
         car: u32, position: *mut f32, position_len: usize);
     /// Whether the tables are sound. One value: 1 or 0.
     unwadegiro_sound(const, const, const, const, const, const, const; values: *mut u32, values_len: usize);
+    /// Answers a piece of a log. Two values: bytes read, bytes written.
+    unwadegiro_log(mut, mut, mut, mut, mut, mut, mut;
+        piece: *const u8, piece_len: usize, held: *mut u8, held_len: usize, out: *mut u8, out_len: usize,
+        values: *mut usize, values_len: usize);
+    /// Answers what is held where a log ends. Two values: 0, bytes written.
+    unwadegiro_log_end(mut, mut, mut, mut, mut, mut, mut;
+        held: *mut u8, held_len: usize, out: *mut u8, out_len: usize, values: *mut usize, values_len: usize);
 }
 
 extern "C" {

@@ -1,5 +1,5 @@
 // The documents' cases, through the safe calls.
-use unwadegiro::{cut, number, square, Capacities, Position, Rectangle, Refusal, Shape, Square, Town, LEVEL};
+use unwadegiro::{cut, number, square, Capacities, Log, Position, Rectangle, Refusal, Shape, Square, Town, LEVEL};
 
 const TOWN: Shape = Shape { k: 2, p: 4, q: 4 };
 const ROOM: Capacities = Capacities { zones: 16, cars: 64, entries: 2048 };
@@ -89,4 +89,27 @@ fn refusals_have_their_numbers() {
     }
     assert_eq!(Refusal::from_number(0), None);
     assert_eq!(Refusal::from_number(14), None);
+}
+
+#[test]
+fn log_cut_anywhere() {
+    let whole = include_bytes!("../../tests/whole.log");
+    let should = include_bytes!("../../tests/whole.answers");
+    for first in 0..=whole.len() {
+        let (mut log, mut answers) = (Log::new(), Vec::new());
+        log.answer(&whole[..first], &mut answers);
+        log.answer(&whole[first..], &mut answers);
+        log.end(&mut answers);
+        assert_eq!(answers, should, "cut after {first} bytes");
+    }
+}
+
+#[test]
+fn log_without_its_last_feed() {
+    let (mut log, mut answers) = (Log::new(), Vec::new());
+    log.answer(b"M\t0\t1\t1", &mut answers);
+    assert_eq!(answers, b"");
+    log.end(&mut answers);
+    log.end(&mut answers);
+    assert_eq!(answers, b"M\t0\n");
 }

@@ -19,11 +19,11 @@ use Rattle.squares.specs.Bounds.{Allowed}
 use Rattle.squares.specs.ShapeLaws.{allowed→, corner→, squares-small, squares-few}
 use Rattle.squares.specs.SquareLaws.{number-below, corner-x-fits, corner-y-fits}
 use Rattle.squares.specs.Squares.{differAt, number, squaresOn, sideOn, cornerX, cornerY}
-use Rattle.squares.specs.Cut.{cut}
-use Rattle.squares.specs.CutLaws.{count-few}
+use Rattle.cuts.specs.Cut.{cut}
+use Rattle.cuts.specs.CutLaws.{count-few}
 use Rattle.squares.specs.Refusals.{Bar, first, Answer, refuse, accept, fields, Write, result}
 use Rattle.squares.specs.RefusalLaws.{Clear, numbered, clear}
-use Rattle.squares.specs.Promises.{numberChecks, numberGives, squareChecks, squareGives, cutChecks, cutGives}
+use Rattle.grid.specs.Promises.{numberChecks, numberGives, squareChecks, squareGives, cutChecks, cutGives}
 use Rattle.position.specs.declared.Position.{Position}
 use Rattle.position.specs.Answer.{columnOf, rowOf}
 use Rattle.model.specs.declared.answers.SoundnessOf.{SoundnessOf}

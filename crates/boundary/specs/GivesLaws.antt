@@ -7,7 +7,7 @@ use lib.ListN.{length}
 use Rattle.squares.specs.declared.shape.Shape.{Shape}
 use Rattle.squares.specs.Refusals.{Answer, fields, Result, result}
 use Rattle.squares.specs.RefusalLaws.{Stops, numberAt, stops}
-use Rattle.squares.specs.Promises.{makes}
+use Rattle.grid.specs.Promises.{makes}
 use Rattle.tables.specs.Tables.{Tables}
 use Rattle.tables.specs.Sizes.{Long}
 use Rattle.values.specs.Promises.{Tells}

@@ -3,6 +3,8 @@ use Prim.Native.Nat.{ℕ, _+_, _*_}
 use mathlib.Core.Path.{_≡_}
 use mathlib.Core.List.{List, [], _∷_}
 use lib.Ieee.{Float}
+use lib.ListN.{getD, drop}
+use lib.Seq.{sets}
 use denote.Triple.Both.{Both}
 use Rattle.squares.specs.declared.shape.Shape.{Shape}
 use Rattle.squares.specs.declared.shape.Rect.{Rect}
@@ -17,6 +19,9 @@ use Rattle.tables.specs.Tables.{Tables}
 use Rattle.promises.specs.Promise.{Keeps}
 use Rattle.promises.specs.Events.{whereTold}
 use Rattle.values.specs.Promises.{said, Tells, Points}
+use Rattle.pieces.specs.declared.pieces.Filling.{Filling}
+use Rattle.pieces.specs.declared.pieces.Filling.the-variants.{Refused, Done}
+use Rattle.pieces.specs.Pieces.{Filled, Fills}
 
 -- ---- arguments put together
 
@@ -57,3 +62,21 @@ lengthsChecks s Z C E = (allowed s, 1) ∷ (roomy Z C E, 2) ∷ []
 
 unfoldable pub lengthsGives : Shape → ℕ → ℕ → ℕ → Result (List ℕ)
 lengthsGives s Z C E = result (first (lengthsChecks s Z C E)) [] (lengths s Z C E)
+
+-- ---- the log
+
+-- the first of what is said is returned, the rest goes into the array from its front as far as it goes
+pub record Said (says v v′ : List ℕ) (r : ℕ) : Type 0 where
+  pub number : r ≡ getD says 0 0
+  pub values : v′ ≡ sets v 0 (drop 1 says)
+
+-- what is said of a call: the number of its refusal, or 0 and how much was read and written
+abbrev pub fillingSays : Filling → List ℕ
+fillingSays (Refused n) = n ∷ 0 ∷ 0 ∷ []
+fillingSays (Done read wrote) = 0 ∷ read ∷ wrote ∷ []
+
+-- the call beneath keeps its promise, and what it answers is told, no number cut
+pub record Logs (f : Filled) (t : Both Tables Tables) (piece b b′ o o′ v v′ : List ℕ) (r : ℕ) : Type 0 where
+  pub answer : Filling
+  pub kept : Fills f t piece b b′ o o′ answer
+  pub tells : Said (fillingSays answer) v v′ r

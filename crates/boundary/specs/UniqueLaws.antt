@@ -19,7 +19,10 @@ use Rattle.promises.specs.Promise.{means, bars, Trusts, Keeps}
 use Rattle.promises.specs.Events.{event, soundnessTold}
 use Rattle.promises.specs.PromiseLaws.{keeps-unique}
 use Rattle.values.specs.Promises.{said, capped, Tells, coordinates, Points}
-use Rattle.boundary.specs.Promises.{Relays, Pointed, Gives}
+use Rattle.room.specs.Room.{Ready}
+use Rattle.pieces.specs.Pieces.{Filled}
+use Rattle.pieces.specs.PromiseLaws.{fills-unique}
+use Rattle.boundary.specs.Promises.{Relays, Pointed, Gives, fillingSays, Logs}
 
 -- ---- the same is told the same way
 
@@ -79,3 +82,11 @@ module _ {t : Tables} where
 
 pub gives-unique : {many : ℕ} {given : Result (List ℕ)} {b c : List (List ℕ)} {v v′ v″ : List ℕ} {r r′ : ℕ} → Gives many given b v v′ r → Gives many given c v v″ r′ → (r ≡ r′) × ((v′ ≡ v″) × (b ≡ c))
 gives-unique h g = let told = tells-same refl (h .tells) (g .tells) in (told .0, (told .1, h .left ∙ sym (g .left)))
+
+-- ---- the log, on ready tables
+
+pub logs-unique : {f : Filled} {t u w : Tables} {piece b b₁ b₂ o o₁ o₂ v v₁ v₂ : List ℕ} {r r′ : ℕ} → Ready t → Logs f (both t u) piece b b₁ o o₁ v v₁ r → Logs f (both t w) piece b b₂ o o₂ v v₂ r′ → (r ≡ r′) × (v₁ ≡ v₂) × (u ≡ w) × (b₁ ≡ b₂) × (o₁ ≡ o₂)
+logs-unique {v = v} ready h g =
+    let same = fills-unique ready (h .kept) (g .kept) in
+    let says = ap fillingSays (same .0) in
+    (h .tells .number ∙ ap (λ (l : List ℕ). getD l 0 0) says ∙ sym (g .tells .number), h .tells .values ∙ ap (λ (l : List ℕ). sets v 0 (drop 1 l)) says ∙ sym (g .tells .values), same .1, same .2, same .3)

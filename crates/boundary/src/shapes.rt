@@ -8,7 +8,7 @@ use values::tell_seven;
 use values::tell_square;
 ghost use mathlib.Core.List.{[], _∷_};
 ghost use Rattle.squares.specs.Shape.{shape};
-ghost use Rattle.squares.specs.Promises.{numberGives, squareGives, cutGives};
+ghost use Rattle.grid.specs.Promises.{numberGives, squareGives, cutGives};
 ghost use Rattle.boundary.specs.Promises.{rect, Gives, lengthsGives};
 
 // Seven values: the lengths of the tables.
@@ -59,7 +59,7 @@ pub extern "C" fn unwadegiro_number(
 ) -> u32
     ensures { λ r'. ⌜ Gives 1 (numberGives (shape k P Q) level x y) [] (now (values .entry)) (now (values .exit)) r' ⌝ }
 {
-    tell_number(squares::number_of_square(k, P, Q, level, x, y), values)
+    tell_number(grid::number_of_square(k, P, Q, level, x, y), values)
 }
 
 // Three values: the corner's column and row, the side.
@@ -74,7 +74,7 @@ pub extern "C" fn unwadegiro_square(
 ) -> u32
     ensures { λ r'. ⌜ Gives 3 (squareGives (shape k P Q) level number) [] (now (values .entry)) (now (values .exit)) r' ⌝ }
 {
-    tell_square(squares::square_of_number(k, P, Q, level, number), values)
+    tell_square(grid::square_of_number(k, P, Q, level, number), values)
 }
 
 // One value: the squares written.
@@ -93,5 +93,5 @@ pub extern "C" fn unwadegiro_cut(
     ensures { λ r'. ⌜ Gives 1 (cutGives (shape k P Q) (rect a b w h) (now (squares .entry))) (now (squares .exit) ∷ []) (now (values .entry)) (now (values .exit)) r' ⌝ }
 {
     let r = Rect { a, b, w, h };
-    tell_cut(squares::cut_of_rectangle(k, P, Q, r, squares), values)
+    tell_cut(grid::cut_of_rectangle(k, P, Q, r, squares), values)
 }

@@ -30,7 +30,7 @@ use Rattle.tables.specs.Lent.{both}
 use Rattle.promises.specs.Promise.{means, bars, Keeps}
 use Rattle.promises.specs.Events.{event}
 use Rattle.promises.specs.PromiseLaws.{keeps-done}
-use Rattle.edits.specs.Edits.{stamped}
+use Rattle.rosters.specs.Rosters.{stamped}
 use Rattle.edits.specs.StampLaws.{departed-is}
 use Rattle.lookup.specs.declared.looks.Looked.{Looked}
 use Rattle.lookup.specs.Looks.{Looks}

@@ -21,7 +21,7 @@ use Rattle.tables.specs.Lent.{both}
 use Rattle.promises.specs.Promise.{Keeps}
 use Rattle.promises.specs.Events.{event}
 use Rattle.promises.specs.PromiseLaws.{keeps-done}
-use Rattle.edits.specs.Edits.{stamped}
+use Rattle.rosters.specs.Rosters.{stamped}
 use Rattle.edits.specs.StampLaws.{reported-is}
 use Rattle.lookup.specs.declared.looks.Crossed.{Crossed}
 use Rattle.lookup.specs.Looks.{Sees}

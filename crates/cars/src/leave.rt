@@ -68,6 +68,6 @@ pub fn leave_map(
     };
     let looked = look_up(s, x, y, starts, entries, left);
     let gone = looked.zones;
-    edits::stamp_rows(rosters, &left[..gone], tables::car_room(head), car, 0);
+    rosters::stamp_rows(rosters, &left[..gone], tables::car_room(head), car, 0);
     Left::Done(looked.squares, gone)
 }

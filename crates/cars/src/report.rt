@@ -146,8 +146,8 @@ fn move_car(
     );
     let came = seen.entered;
     let gone = seen.left;
-    edits::stamp_rows(rosters, &entered[..came], many, car, 1);
-    edits::stamp_rows(rosters, &left[..gone], many, car, 0);
+    rosters::stamp_rows(rosters, &entered[..came], many, car, 1);
+    rosters::stamp_rows(rosters, &left[..gone], many, car, 0);
     edits::write_spot(spots, c, p);
     edits::write_car(cars, c, 1);
     Reported::Done(seen.squares, came, gone)

@@ -3,15 +3,15 @@
 mod whole; // whole.rt: the whole case of the log
 mod small; // small.rt: a small town, sound and then with one number wrong at a time
 
+use grid::CutOf;
+use grid::NumberOf;
+use grid::SquareOf;
 use libc::STDOUT_FILENO;
 use position::Coordinate;
 use position::Position;
 use position::Spot;
-use squares::CutOf;
-use squares::NumberOf;
 use squares::Rect;
 use squares::Shape;
-use squares::SquareOf;
 
 pub fn text(bytes: &[u8]) {
     io::write_all(STDOUT_FILENO, bytes);
@@ -40,7 +40,7 @@ fn number_of(s: Shape, level: u32, x: u32, y: u32) {
     number(x as u64);
     number(y as u64);
     text(b" ->");
-    match squares::number_of_square(s.k, s.P, s.Q, level, x, y) {
+    match grid::number_of_square(s.k, s.P, s.Q, level, x, y) {
         NumberOf::Refused(n) => number(n as u64),
         NumberOf::Number(n) => {
             number(0);
@@ -56,7 +56,7 @@ fn square_of(s: Shape, level: u32, n: u32) {
     number(level as u64);
     number(n as u64);
     text(b" ->");
-    match squares::square_of_number(s.k, s.P, s.Q, level, n) {
+    match grid::square_of_number(s.k, s.P, s.Q, level, n) {
         SquareOf::Refused(r) => number(r as u64),
         SquareOf::Square(q) => {
             number(0);
@@ -99,7 +99,7 @@ fn cut_into(s: Shape, r: Rect, out: &mut [u32]) {
     number(r.w as u64);
     number(r.h as u64);
     text(b" ->");
-    match squares::cut_of_rectangle(s.k, s.P, s.Q, r, out) {
+    match grid::cut_of_rectangle(s.k, s.P, s.Q, r, out) {
         CutOf::Refused(n) => number(n as u64),
         CutOf::Listed(n) => {
             number(0);

@@ -23,7 +23,7 @@ use Rattle.squares.specs.declared.shape.Rect.{Rect}
 use Rattle.squares.specs.Bounds.{Fits}
 use Rattle.squares.specs.Squares.{squares}
 use Rattle.squares.specs.ShapeLaws.{squares-few, fits→}
-use Rattle.squares.specs.Cut.{inCut, cut}
+use Rattle.cuts.specs.Cut.{inCut, cut}
 use Rattle.model.specs.Model.{Town, holdsCar, roster, cutSize, entriesUsed, zoneOn, after, except}
 use Rattle.tables.specs.Tables.{Tables, tables, shapeOf, zoneRoom, carRoom, entryRoom, rectIn, rectOf, stands, placed, townOf, rosterHas}
 use Rattle.tables.specs.Derived.{on, levelAt, numberAt, keysTo, used, free, entriesOf, startsOf, rostersOf}
@@ -34,15 +34,15 @@ use Rattle.tables.specs.RowLaws.{mapped}
 use Rattle.tables.specs.RunLaws.{start-at}
 use Rattle.tables.specs.CheckLaws.{size-of}
 use Rattle.tables.specs.CountLaws.{count-used}
-use Rattle.edits.specs.Merge.{Apart, Union, Merged}
-use Rattle.edits.specs.Keys.{zoneKeys, KeysAdded}
-use Rattle.edits.specs.Inside.{carWithin, rowIn, countIn}
-use Rattle.edits.specs.Edits.{ofZone, ofOther}
+use Rattle.entries.specs.Merge.{Apart, Union, Merged}
+use Rattle.entries.specs.Keys.{zoneKeys, KeysAdded}
+use Rattle.rosters.specs.Inside.{carWithin, rowIn, countIn}
+use Rattle.entries.specs.Drops.{ofZone, ofOther}
 use Rattle.edits.specs.ZoneLaws.{length-with, rect-with, rect-with-other, stands-with-other, on-with, on-with-other, sized-zoned}
 use Rattle.edits.specs.TownLaws.{same-or-other, except-own, except-other, town-fresh, town-zone-on}
 use Rattle.edits.specs.RosterLaws.{has-with, rosters-with}
-use Rattle.edits.specs.RankLaws.{map-same, rank-start}
-use Rattle.edits.specs.KeyLaws.{keys-rise, keys→, →keys, length-keys}
+use Rattle.starts.specs.RankLaws.{map-same, rank-start}
+use Rattle.entries.specs.KeyLaws.{keys-rise, keys→, →keys, length-keys}
 use Rattle.edits.specs.DropLaws.{length-parts}
 use Rattle.edits.specs.StepLaws.{fresh-sound}
 

@@ -1,5 +1,5 @@
 -- Laws of the rosters of tables with other zones: only the changed zone's row differs.
-use Prim.Native.Nat.{ℕ, _+_, _-_, _*_, _/_, _%_, _<_, _≤_}
+use Prim.Native.Nat.{ℕ, _+_, _*_, _/_, _%_, _<_, _≤_}
 use mathlib.Core.Path.{_≡_, refl, ap, sym, _∙_}
 use mathlib.Core.Logic.{_⊎_, inl, inr, ⊎-elim}
 use mathlib.Core.Bool.{Bool, false}
@@ -8,15 +8,14 @@ use mathlib.Core.Option.{Option, none, some}
 use native.Mathlib.Omega.{arith}
 use native.Mathlib.Nat.{zero-add, mul-le-mul, suc-mul, div-add-mod', mod-lt, div-lt-iff-lt-mul, le-refl}
 use lib.Arith.{digits-lt, digits-div, digits-mod}
-use lib.ListN.{length, getD, replicate, length-map, length-replicate}
+use lib.ListN.{length, getD, replicate, length-map}
 use lib.Seq.{sets, length-sets, ext-getD}
-use borrow.Rule.Slice.PartMut.{midOf, putMid, mid-len}
 use Rattle.order.specs.Order.{upto}
 use Rattle.order.specs.Sums.{bit}
 use Rattle.order.specs.TestLaws.{lt-or-eq-or-gt}
 use Rattle.order.specs.KeepLaws.{length-span}
 use Rattle.squares.specs.declared.shape.Rect.{Rect}
-use Rattle.squares.specs.Cut.{holds}
+use Rattle.squares.specs.Shape.{holds}
 use Rattle.position.specs.declared.Position.{Position}
 use Rattle.position.specs.Answer.{columnOf, rowOf}
 use Rattle.model.specs.Model.{Town, there, holdsCar, zoneOn, zoneOff, after}
@@ -24,21 +23,10 @@ use Rattle.tables.specs.Tables.{Tables, zoneRoom, carRoom, zoneIn, townOf, rost
 use Rattle.tables.specs.Sizes.{Sized}
 use Rattle.tables.specs.Derived.{rostersOf}
 use Rattle.tables.specs.Steps.{fresh, zoned, withZone, withoutZone}
-use Rattle.tables.specs.Rows.{RowThere}
-use Rattle.edits.specs.Edits.{rowCleared}
-use Rattle.tables.specs.RowLaws.{map-span, part-stored}
+use Rattle.rosters.specs.Rosters.{rowCleared}
+use Rattle.tables.specs.RowLaws.{map-span}
 use Rattle.edits.specs.ZoneLaws.{sets-apart, sets-there}
 use Rattle.edits.specs.TownLaws.{except-own, except-other, town-fresh, town-zone-on, town-zone-off}
-
--- ---- a part lent and written
-
--- a zone's row filled with 0
-pub row-filled : {rosters : List ℕ} {z many : ℕ} → RowThere rosters z many → (f : List ℕ) → f ≡ replicate (length (midOf (z * many) (z * many + many - z * many) rosters)) 0 → putMid (z * many) (z * many + many - z * many) rosters f ≡ rowCleared rosters z many
-row-filled {rosters} {z} {many} h f e =
-    let n : length (midOf (z * many) (z * many + many - z * many) rosters) ≡ z * many + many - z * many = mid-len (z * many) (z * many + many) rosters (h .there) in
-    let d : z * many + many - z * many ≡ many = omega arith in
-    let q : f ≡ replicate many 0 = e ∙ ap (λ (m : ℕ). replicate m 0) (n ∙ d) in
-    part-stored rosters f (z * many) (z * many + many) (omega arith) (h .there) (ap length e ∙ length-replicate _ 0 ∙ n) ∙ ap (sets rosters (z * many)) q
 
 -- ---- who is on a roster
 

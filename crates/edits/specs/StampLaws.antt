@@ -1,16 +1,15 @@
 -- Laws of a car's bytes set in the rows of the zones it enters and leaves: the rosters are then what the records give.
-use Prim.Native.Nat.{ℕ, _+_, _*_, _/_, _%_, _<_, _≤_}
+use Prim.Native.Nat.{ℕ, _+_, _*_, _/_, _%_, _<_}
 use mathlib.Core.Path.{_≡_, refl, ap, ap₂, sym, _∙_}
 use mathlib.Core.Logic.{⊎-elim}
 use mathlib.Core.Bool.{Bool, true, false, _&&_, not, and-true}
 use mathlib.Core.List.{List, [], _∷_, List·Memᴰ, List·Memᴰ·head, List·Memᴰ·tail, List·Memᴰ·cases-cons, List·Memᴰ·not-nil}
 use native.Mathlib.Omega.{arith}
-use native.Mathlib.Numerals.{add-one}
 use native.Mathlib.Nat.{div-add-mod', mod-lt, div-lt-iff-lt-mul}
 use lib.Ieee.{Float}
 use lib.Arith.{digits-lt, digits-div, digits-mod}
-use lib.ListN.{length, getD, drop, set, length-set, drop-of-length-le}
-use lib.Seq.{drop-cons, getD-set-same, getD-set-other, ext-getD}
+use lib.ListN.{length, getD, set, length-set}
+use lib.Seq.{getD-set-same, getD-set-other, ext-getD}
 use Rattle.order.specs.Order.{upto, keep}
 use Rattle.order.specs.Sums.{bit}
 use Rattle.order.specs.TestLaws.{true-or-false, true-not-false, and→}
@@ -25,29 +24,10 @@ use Rattle.tables.specs.Sound.{Sound}
 use Rattle.tables.specs.Steps.{fresh, parked, withSpot, step}
 use Rattle.tables.specs.CheckLaws.{size-of}
 use Rattle.tables.specs.RecordLaws.{rosters-fresh}
-use Rattle.edits.specs.Edits.{stamped}
+use Rattle.rosters.specs.Rosters.{stamped}
 use Rattle.edits.specs.RosterLaws.{byte-at, length-rosters}
 use Rattle.edits.specs.TownLaws.{same-or-other, town-fresh}
 use Rattle.edits.specs.CarLaws.{report-own, report-other, report-keeps, leave-own, leave-other, leave-keeps}
-
--- ---- the bytes set one by one
-
--- of a list of zones those before place i are done
-pub record Stamping (b zs : List ℕ) (many c v : ℕ) (b′ : List ℕ) (i : ℕ) : Type 0 where
-  pub left : stamped b′ (drop i zs) many c v ≡ stamped b zs many c v
-  pub long : length b′ ≡ length b
-
-module _ (b zs : List ℕ) (many c v : ℕ) where
-  pub stamp-begins : Stamping b zs many c v b 0
-  stamp-begins = record { left = refl; long = refl }
-
-  pub stamp-turns : {b′ b″ : List ℕ} {i at : ℕ} → Stamping b zs many c v b′ i → i < length zs → at ≡ getD zs i 0 * many + c → b″ ≡ set b′ at v → Stamping b zs many c v b″ (i + 1)
-  unfolding stamped
-  stamp-turns {b′} {b″} {i} s h f g = let e = g ∙ ap (λ (n : ℕ). set b′ n v) f in record { left = ap (λ (l : List ℕ). stamped l (drop (i + 1) zs) many c v) e ∙ rw (drop-cons zs i 0 h, ← add-one i) at (s .left); long = ap length e ∙ length-set b′ (getD zs i 0 * many + c) v ∙ s .long }
-
-  pub stamp-ends : {b′ : List ℕ} {i : ℕ} → Stamping b zs many c v b′ i → length zs ≤ i → b′ ≡ stamped b zs many c v
-  unfolding stamped
-  stamp-ends {b′} {i} s h = sym (ap (λ (l : List ℕ). stamped b′ l many c v) (drop-of-length-le zs h)) ∙ s .left
 
 -- ---- what each byte is then
 

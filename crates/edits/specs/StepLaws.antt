@@ -20,7 +20,8 @@ use Rattle.tables.specs.Sound.{Sound}
 use Rattle.tables.specs.Steps.{fresh, zoned, withoutZone, step}
 use Rattle.tables.specs.CheckLaws.{size-of, →sized}
 use Rattle.tables.specs.RecordLaws.{entries-fresh, rosters-fresh}
-use Rattle.edits.specs.Edits.{ofOther, rowCleared, Drops}
+use Rattle.entries.specs.Drops.{ofOther, Drops}
+use Rattle.rosters.specs.Rosters.{rowCleared}
 use Rattle.edits.specs.ZoneLaws.{length-without, stands-without, rect-without-other, stands-without-other, on-without, sized-zoned}
 use Rattle.edits.specs.TownLaws.{same-or-other}
 use Rattle.edits.specs.DropLaws.{drop-sound, lower-sound}

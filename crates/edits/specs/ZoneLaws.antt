@@ -13,11 +13,11 @@ use borrow.Author.Tests.{lt-ltb, eq-eqb, eqb-true}
 use Rattle.order.specs.TestLaws.{lt-or-le, true-or-false, true-not-false}
 use Rattle.squares.specs.declared.shape.Shape.{Shape}
 use Rattle.squares.specs.declared.shape.Rect.{Rect}
-use Rattle.squares.specs.Cut.{inCut}
+use Rattle.cuts.specs.Cut.{inCut}
 use Rattle.tables.specs.Tables.{Tables, shapeOf, rectIn, rectOf, standsIn, stands}
 use Rattle.tables.specs.Sizes.{Sized}
 use Rattle.tables.specs.Derived.{levelAt, numberAt, on}
-use Rattle.edits.specs.Edits.{ofOther}
+use Rattle.entries.specs.Drops.{ofOther}
 use Rattle.tables.specs.Steps.{zoned, withZone, withoutZone}
 
 rect-same : {a a′ b b′ w w′ h h′ : ℕ} → a ≡ a′ → b ≡ b′ → w ≡ w′ → h ≡ h′ → _≡_ {A = Rect} (record { a = a; b = b; w = w; h = h }) (record { a = a′; b = b′; w = w′; h = h′ })

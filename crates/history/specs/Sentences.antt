@@ -13,7 +13,7 @@ use Rattle.order.specs.Order.{over}
 use Rattle.order.specs.Sums.{bit}
 use Rattle.order.specs.TestLaws.{lt-or-le, true-not-false}
 use Rattle.squares.specs.declared.shape.Rect.{Rect}
-use Rattle.squares.specs.Cut.{cut}
+use Rattle.cuts.specs.Cut.{cut}
 use Rattle.squares.specs.Refusals.{first, Answer, refuse, accept, Result, refusing, giving, result}
 use Rattle.squares.specs.RefusalLaws.{stops}
 use Rattle.position.specs.declared.Position.{Position}

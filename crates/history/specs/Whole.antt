@@ -8,7 +8,7 @@ use lib.ListN.{replicate}
 use Rattle.order.specs.Order.{span, keep}
 use Rattle.order.specs.Sums.{sum}
 use Rattle.squares.specs.Squares.{number, cornerX, cornerY, interleave, evens}
-use Rattle.squares.specs.Cut.{cutTo, inCut, inside}
+use Rattle.cuts.specs.Cut.{cutTo, inCut, inside}
 use Rattle.squares.specs.ShapeLaws.{allowed→}
 use Rattle.squares.specs.Refusals.{first}
 use Rattle.squares.specs.RefusalLaws.{stops}

@@ -10,7 +10,7 @@ use Rattle.order.specs.Order.{span, keep}
 use Rattle.order.specs.Buffer.{endsBelow}
 use Rattle.order.specs.Sums.{sum}
 use Rattle.squares.specs.Squares.{cornerX, cornerY, evens}
-use Rattle.squares.specs.Cut.{cutTo, inCut, inside}
+use Rattle.cuts.specs.Cut.{cutTo, inCut, inside}
 use Rattle.model.specs.Whole.{asked, rect, at, far}
 use Rattle.tables.specs.Tables.{Tables, Derived, Records, tables, shapeOf, rosterHas, zoneHolds, zoneIn, carIn, stands, placed}
 use Rattle.tables.specs.Derived.{before, levelAt, on, free, derivedOf}

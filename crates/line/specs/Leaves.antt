@@ -3,7 +3,6 @@ use Prim.Native.Nat.{ℕ, _+_, _≤_}
 use mathlib.Core.Path.{_≡_}
 use mathlib.Core.List.{List, _++_}
 use lib.ListN.{length, take, drop}
-use Rattle.order.specs.Order.{Wrote}
 use Rattle.line.specs.Grammar.{form}
 use Rattle.line.specs.Fields.{front}
 
@@ -29,8 +28,3 @@ pub record Holds (part b b′ : List ℕ) (n r : ℕ) : Type 0 where
   pub is : take r b′ ≡ take 81 (take n b ++ part)
   pub most : r ≤ 81
   pub room : length b′ ≡ length b
-
--- a text of at most m bytes stored from place `at` on, as far as the buffer goes
-pub record Puts (b b′ : List ℕ) (at r : ℕ) (t : List ℕ) (m : ℕ) : Type 0 where
-  pub wrote : Wrote b b′ at r t
-  pub most : r ≤ at + m

@@ -1,6 +1,5 @@
 pub mod Split
 pub mod Grammar
-pub mod Text
 pub mod Lines
 pub mod Takes
 pub mod Fields
@@ -8,6 +7,5 @@ pub mod Leaves
 pub mod SplitLaws
 pub mod NumberLaws
 pub mod RecordLaws
-pub mod TextLaws
 pub mod LineLaws
 pub mod Examples

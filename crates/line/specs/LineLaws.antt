@@ -40,10 +40,10 @@ take-take-append (suc n) [] b = refl
 take-take-append (suc n) (x ∷ a) b = ap (λ (l : List ℕ). x ∷ l) (take-take-append n a b)
 
 -- a byte more
-hold-more : (h : List ℕ) (x : ℕ) (l : List ℕ) → take 81 (take 81 (h ++ (x ∷ [])) ++ l) ≡ take 81 (h ++ (x ∷ l))
+pub hold-more : (h : List ℕ) (x : ℕ) (l : List ℕ) → take 81 (take 81 (h ++ (x ∷ [])) ++ l) ≡ take 81 (h ++ (x ∷ l))
 hold-more h x l = take-take-append 81 (h ++ (x ∷ [])) l ∙ ap (take 81) (append-snoc h x l)
 
-hold-few : (l : List ℕ) → length (take 81 l) ≤ 81
+pub hold-few : (l : List ℕ) → length (take 81 l) ≤ 81
 hold-few l = ⊎-elim
     (λ (h : length l < 81). rw (take-all 81 l (omega arith)) (omega arith))
     (λ (h : 81 ≤ length l). omega (arith, length-take-le 81 l h))
@@ -69,7 +69,7 @@ prepend-none (x ∷ l) = go (eqb x 10) (split 10 l)
     go false [] = refl
     go false (p ∷ ps) = refl
 
-trimmed-more : (p l : List ℕ) → trimmed (p ∷ split 10 l) ≡ p ∷ trimmed (split 10 l)
+pub trimmed-more : (p l : List ℕ) → trimmed (p ∷ split 10 l) ≡ p ∷ trimmed (split 10 l)
 unfolding split
 trimmed-more p [] = refl
 trimmed-more p (x ∷ l) = go (eqb x 10) (split 10 l)
@@ -113,28 +113,6 @@ lines-mean input = ap (map meaning) (lines-cut input) ∙ same (lines input)
     same [] = refl
     same (l ∷ ls) = ap₂ (λ (r : Record) (rs : List Record). r ∷ rs) (meaning-cut l) (same ls)
 
--- ---- a piece up to its next feed
-
-feed-line : (h m : List ℕ) → length h ≤ 81 → length (front 10 m) < length m → feed h m ≡ before (take 81 (h ++ front 10 m) ∷ []) (feed [] (drop (suc (length (front 10 m))) m))
-unfolding feed front
-feed-line h [] k g = absurd (omega arith)
-feed-line h (x ∷ m) k g = go (eqb x 10) g (feed-line (take 81 (h ++ (x ∷ []))) m (hold-few (h ++ (x ∷ []))))
-  where
-    go : (t : Bool) → length (cond t [] (x ∷ front 10 m)) < suc (length m) → (length (front 10 m) < length m → feed (take 81 (h ++ (x ∷ []))) m ≡ before (take 81 ((take 81 (h ++ (x ∷ []))) ++ front 10 m) ∷ []) (feed [] (drop (suc (length (front 10 m))) m)))
-        → cond t (before (h ∷ []) (feed [] m)) (feed (take 81 (h ++ (x ∷ []))) m) ≡ before (take 81 (h ++ cond t [] (x ∷ front 10 m)) ∷ []) (feed [] (drop (length (cond t [] (x ∷ front 10 m))) m))
-    go true s f = ap (λ (t : List ℕ). before (t ∷ []) (feed [] m)) (sym (ap (take 81) (append-nil h) ∙ take-all 81 h k))
-    go false s f = f (omega arith) ∙ ap (λ (t : List ℕ). before (t ∷ []) (feed [] (drop (suc (length (front 10 m))) m))) (hold-more h x (front 10 m))
-
-feed-part : (h m : List ℕ) → length h ≤ 81 → length m ≤ length (front 10 m) → feed h m ≡ record { ended = []; held = take 81 (h ++ m) }
-unfolding feed front
-feed-part h [] k g = ap (λ (t : List ℕ). record { ended = []; held = t }) (sym (ap (take 81) (append-nil h) ∙ take-all 81 h k))
-feed-part h (x ∷ m) k g = go (eqb x 10) g (feed-part (take 81 (h ++ (x ∷ []))) m (hold-few (h ++ (x ∷ []))))
-  where
-    go : (t : Bool) → suc (length m) ≤ length (cond t [] (x ∷ front 10 m)) → (length m ≤ length (front 10 m) → feed (take 81 (h ++ (x ∷ []))) m ≡ record { ended = []; held = take 81 ((take 81 (h ++ (x ∷ []))) ++ m) })
-        → cond t (before (h ∷ []) (feed [] m)) (feed (take 81 (h ++ (x ∷ []))) m) ≡ record { ended = []; held = take 81 (h ++ (x ∷ m)) }
-    go true s f = absurd (omega arith)
-    go false s f = f (omega arith) ∙ ap (λ (t : List ℕ). record { ended = []; held = t }) (hold-more h x m)
-
 -- ---- bytes held in a buffer
 
 -- i bytes of the part are held
@@ -175,42 +153,38 @@ module _ {part b b′ : List ℕ} {n m i : ℕ} (r : Room b n) (s : Holding part
 
 -- ---- a line taken from a piece
 
-module _ {p : List ℕ} {at : ℕ} {b b′ : List ℕ} {n e r : ℕ} (k : Room b n) (f : Ends 10 p at e) (h : Holds (take (e - at) (drop at p)) b b′ n r) where
-  small : length (take n b) ≤ 81
-  small = omega (arith, k .few, length-take-le n b (omega (arith, k .few, k .long)))
-
+module _ {p : List ℕ} {at : ℕ} {b b′ : List ℕ} {n e m : ℕ} (k : Room b n) (f : Ends 10 p at e) (h : Holds (take (e - at) (drop at p)) b b′ n m) where
   found : length (front 10 (drop at p)) ≡ e - at
   found = omega (arith, f .is)
 
   front-is : front 10 (drop at p) ≡ take (e - at) (drop at p)
   front-is = front-take 10 (drop at p) ∙ ap (λ (x : ℕ). take x (drop at p)) found
 
-  pub takes-line : e < length p → Takes p at b b′ n (e + 1) r true
+  line-is : take m b′ ≡ take 81 (take n b ++ front 10 (drop at p))
+  line-is = h .is ∙ ap (λ (x : List ℕ). take 81 (take n b ++ x)) (sym front-is)
+
+  pub takes-line : e < length p → Takes p at b b′ n (e + 1) m true 0
   takes-line g =
       let d : at + suc (length (front 10 (drop at p))) ≡ e + 1 = omega (arith, f .is) in
       record {
         within = omega arith;
         further = λ (_ : at < length p). omega (arith, f .from);
         most = h .most;
+        few = omega arith;
         room = h .room;
-        line = λ (_ : true ≡ true).
-            feed-line (take n b) (drop at p) small (omega (arith, found, f .from, length-drop at p))
-            ∙ ap₂ (λ (x y : List ℕ). before (x ∷ []) (feed [] y)) (ap (λ (x : List ℕ). take 81 (take n b ++ x)) front-is ∙ sym (h .is)) (drop-drop (suc (length (front 10 (drop at p)))) at p ∙ ap (λ (x : ℕ). drop x p) d);
+        line = line-is;
+        ended = λ (_ : true ≡ true). (omega (arith, found, f .from, length-drop at p), sym (drop-drop (suc (length (front 10 (drop at p)))) at p ∙ ap (λ (x : ℕ). drop x p) d), refl);
         part = λ (w : true ≡ false). absurd (true-not-false true refl w);
       }
 
-  pub takes-part : length p ≤ e → Takes p at b b′ n e r false
-  takes-part g =
-      let w : take (e - at) (drop at p) ≡ drop at p = take-all (e - at) (drop at p) (omega (arith, length-drop at p)) in
-      record {
-        within = f .within;
-        further = λ (x : at < length p). omega arith;
-        most = h .most;
-        room = h .room;
-        line = λ (x : false ≡ true). absurd (true-not-false false x refl);
-        part = λ (_ : false ≡ false). (
-          omega (arith, f .within),
-          feed-part (take n b) (drop at p) small (omega (arith, found, length-drop at p))
-              ∙ ap (λ (x : List ℕ). record { ended = []; held = x }) (ap (λ (x : List ℕ). take 81 (take n b ++ x)) (sym w) ∙ sym (h .is)),
-        );
-      }
+  pub takes-part : length p ≤ e → Takes p at b b′ n e m false m
+  takes-part g = record {
+    within = f .within;
+    further = λ (x : at < length p). omega arith;
+    most = h .most;
+    few = omega arith;
+    room = h .room;
+    line = line-is;
+    ended = λ (x : false ≡ true). absurd (true-not-false false x refl);
+    part = λ (_ : false ≡ false). (front-is ∙ take-all (e - at) (drop at p) (omega (arith, length-drop at p)), omega (arith, f .within), refl);
+  }

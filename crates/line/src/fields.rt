@@ -1,20 +1,15 @@
 // The fields of a line.
 use crate::scan::end_of;
 ghost use mathlib.Core.Path.{_≡_};
-ghost use Rattle.line.specs.Fields.{fieldAt};
+ghost use Rattle.line.specs.Fields.{fieldEnd};
 
-// A field that starts at a place: there is none there, or it goes up to a place.
-pub enum Field {
-    Missing,
-    UpTo(usize),
-}
-
-// The field that starts at a place of the line.
-pub fn field_at(line: &[u8], at: usize) -> Field
-    ensures { λ r. ⌜ r ≡ fieldAt (now (line .entry)) at ⌝ }
+// Where the field that starts at a place ends: at its tab, or where the line does.
+// Past the line's end there is none. The end is then before the place.
+pub fn field_end(line: &[u8], at: usize) -> usize
+    ensures { λ r. ⌜ r ≡ fieldEnd (now (line .entry)) at ⌝ }
 {
     if line.len() < at {
-        return Field::Missing;
+        return line.len();
     }
-    Field::UpTo(end_of(line, at, b'\t'))
+    end_of(line, at, b'\t')
 }

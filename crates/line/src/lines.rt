@@ -5,11 +5,13 @@ ghost use lib.ListN.{length};
 ghost use Rattle.line.specs.Leaves.{Holds};
 ghost use Rattle.line.specs.Takes.{Room, Takes};
 
-// Up to where a piece was taken, how many bytes are held, and whether they are a whole line.
+// A line taken out of a piece: up to where, how many bytes of it stand in the buffer, whether it has ended, and how many of
+// them are held for the next piece, none where it has.
 pub struct Taken {
     pub next: usize,
-    pub held: usize,
+    pub bytes: usize,
     pub whole: bool,
+    pub held: usize,
 }
 
 // The bytes of a part after the first n of the buffer, until 81 are held.
@@ -34,20 +36,22 @@ fn hold(part: &[u8], held: &mut [u8], n: usize) -> usize
 pub fn take_line(piece: &[u8], at: usize, held: &mut [u8], n: usize) -> Taken
     requires { ⌜ at ≤ length (now piece) ⌝ }
     requires { ⌜ Room (now held) n ⌝ }
-    ensures { λ r. ⌜ Takes (now (piece .entry)) at (now (held .entry)) (now (held .exit)) n (r .next) (r .held) (r .whole) ⌝ }
+    ensures { λ r. ⌜ Takes (now (piece .entry)) at (now (held .entry)) (now (held .exit)) n (r .next) (r .bytes) (r .whole) (r .held) ⌝ }
 {
     let end = end_of(piece, at, b'\n');
     let m = hold(&piece[at..end], held, n);
     if end < piece.len() {
         return Taken {
             next: end + 1,
-            held: m,
+            bytes: m,
             whole: true,
+            held: 0,
         };
     }
     Taken {
         next: end,
-        held: m,
+        bytes: m,
         whole: false,
+        held: m,
     }
 }

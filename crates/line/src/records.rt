@@ -1,13 +1,11 @@
 // The record that a line means.
-use crate::fields::Field;
 use crate::numbers::Number;
 use crate::numbers::read_value;
-use crate::reader::read_field;
-ghost use Prim.Native.Nat.{_≤_};
+use crate::reader::field_ends;
 ghost use mathlib.Core.Path.{_≡_};
-ghost use lib.ListN.{length};
+ghost use mathlib.Core.List.{_∷_};
 ghost use Rattle.line.specs.Grammar.{recordOf, recorded, form, values, meaning};
-ghost use Rattle.line.specs.Fields.{rest};
+ghost use Rattle.line.specs.Fields.{fieldEnds, rest};
 ghost use Rattle.line.specs.Leaves.{Formed};
 
 // A line that is no record is Bad. A coordinate is a float's bits.
@@ -63,33 +61,36 @@ fn form_of(letter: u8) -> Form
 fn record_of(letter: u8, v: [u32; 5]) -> Record
     ensures { λ r. ⌜ r ≡ recordOf letter v ⌝ }
 {
+    let first = v[0];
+    let second = v[1];
+    let third = v[2];
     if letter == b'M' {
-        return Record::Open(v[0], v[1], v[2]);
+        return Record::Open(first, second, third);
     }
     if letter == b'A' {
-        return Record::Add(v[0], v[1], v[2], v[3], v[4]);
+        return Record::Add(first, second, third, v[3], v[4]);
     }
     if letter == b'D' {
-        return Record::Remove(v[0]);
+        return Record::Remove(first);
     }
     if letter == b'P' {
-        return Record::Report(v[0], v[1], v[2]);
+        return Record::Report(first, second, third);
     }
     if letter == b'L' {
-        return Record::Leave(v[0]);
+        return Record::Leave(first);
     }
     if letter == b'S' {
-        return Record::Search(v[0], v[1]);
+        return Record::Search(first, second);
     }
     if letter == b'R' {
-        return Record::Roster(v[0]);
+        return Record::Roster(first);
     }
     Record::Bad
 }
 
-// The record with a letter and the fields from place 2 of the line on.
-fn read_record(line: &[u8], letter: u8) -> Record
-    requires { ⌜ length (now line) ≤ 80 ⌝ }
+// The record with a letter and the fields from place 2 of the line on, which have these ends after the letter's.
+fn read_record(line: &[u8], letter: u8, ends: [usize; 7]) -> Record
+    requires { ⌜ ends ≡ 1 ∷ fieldEnds 6 (now line) 2 ⌝ }
     ensures { λ r. ⌜ r ≡ recorded letter (values (form letter) (rest (now (line .entry)) 2)) ⌝ }
 {
     let form = form_of(letter);
@@ -99,9 +100,10 @@ fn read_record(line: &[u8], letter: u8) -> Record
     let mut at = 2;
     let mut i = 0;
     while i < count {
-        let Field::UpTo(end) = read_field(line, at) else {
+        let end = ends[i + 1];
+        if end < at {
             return Record::Bad;
-        };
+        }
         let Number::Value(n) = read_value(&line[at..end], bases[i]) else {
             return Record::Bad;
         };
@@ -109,7 +111,7 @@ fn read_record(line: &[u8], letter: u8) -> Record
         at = end + 1;
         i += 1;
     }
-    if at <= line.len() {
+    if at <= ends[i + 1] {
         return Record::Bad;
     }
     record_of(letter, v)
@@ -122,11 +124,9 @@ pub fn parse(line: &[u8]) -> Record
     if 80 < line.len() {
         return Record::Bad;
     }
-    let Field::UpTo(end) = read_field(line, 0) else {
-        return Record::Bad;
-    };
-    if end != 1 {
+    let ends = field_ends(line);
+    if ends[0] != 1 {
         return Record::Bad;
     }
-    read_record(line, line[0])
+    read_record(line, line[0], ends)
 }

@@ -1,2 +1,2 @@
-pub mod Pieces
-pub mod PieceLaws
+pub mod Carried
+pub mod CarriedLaws

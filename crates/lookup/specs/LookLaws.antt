@@ -13,9 +13,8 @@ use Rattle.order.specs.BufferLaws.{Front, front-none}
 use Rattle.order.specs.TestLaws.{lt-or-le, true-or-false, true-not-false, both-ways, and→}
 use Rattle.order.specs.KeepLaws.{span→, keep-ext, keep-none}
 use Rattle.squares.specs.declared.shape.Shape.{Shape}
-use Rattle.squares.specs.Shape.{width, height}
+use Rattle.squares.specs.Shape.{width, height, holds}
 use Rattle.squares.specs.Squares.{squares, squaresOn, number}
-use Rattle.squares.specs.Cut.{holds}
 use Rattle.squares.specs.Leaves.{OnMap, Below, StepsApart}
 use Rattle.squares.specs.SquareLaws.{number-parent, number-below}
 use Rattle.squares.specs.DifferLaws.{Apart, apart-none, steps-apart}

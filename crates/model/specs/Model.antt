@@ -10,9 +10,9 @@ use Rattle.order.specs.Order.{upto, keep}
 use Rattle.order.specs.Sums.{sum, bit}
 use Rattle.squares.specs.declared.shape.Shape.{Shape}
 use Rattle.squares.specs.declared.shape.Rect.{Rect}
-use Rattle.squares.specs.Shape.{shape, allowed, fits, mostZones, mostCars, mostEntries}
+use Rattle.squares.specs.Shape.{shape, allowed, fits, mostZones, mostCars, mostEntries, holds}
 use Rattle.squares.specs.Squares.{differ}
-use Rattle.squares.specs.Cut.{holds, cut}
+use Rattle.cuts.specs.Cut.{cut}
 use Rattle.squares.specs.Refusals.{Bar, first, Answer, refuse, accept, Result, Write, refusing, result}
 use Rattle.position.specs.declared.Position.{Position}
 use Rattle.position.specs.Answer.{onTown, columnOf, rowOf}

@@ -10,9 +10,9 @@ use Rattle.order.specs.Order.{upto, span, keep}
 use Rattle.squares.specs.declared.shape.Shape.{Shape}
 use Rattle.squares.specs.Shape.{shape}
 use Rattle.squares.specs.Squares.{number, cornerX, cornerY, squares, interleave, evens}
-use Rattle.squares.specs.Cut.{code, cut, cutTo, cutOn, inCut, inside}
+use Rattle.cuts.specs.Cut.{code, cut, cutTo, cutOn, inCut, inside}
 use Rattle.squares.specs.Refusals.{first, fields}
-use Rattle.squares.specs.Promises.{numberGives}
+use Rattle.grid.specs.Promises.{numberGives}
 use Rattle.position.specs.declared.Position.{Position}
 use Rattle.position.specs.Cell.{whole, inRange, onMap, cellOf}
 use Rattle.position.specs.Answer.{onTown, columnOf, rowOf}

@@ -11,7 +11,7 @@ use Rattle.order.specs.Sums.{sum}
 use Rattle.squares.specs.declared.shape.Rect.{Rect}
 use Rattle.squares.specs.Shape.{shape}
 use Rattle.squares.specs.Squares.{number, cornerX, cornerY, interleave, evens}
-use Rattle.squares.specs.Cut.{cutTo, inCut, inside}
+use Rattle.cuts.specs.Cut.{cutTo, inCut, inside}
 use Rattle.squares.specs.Refusals.{first, Answer, refuse, accept, Result}
 use Rattle.position.specs.declared.Position.{Position}
 use Rattle.position.specs.Cell.{whole, inRange, onMap, cellOf}

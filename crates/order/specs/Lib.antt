@@ -8,3 +8,4 @@ pub mod SumLaws
 pub mod RisingLaws
 pub mod BufferLaws
 pub mod RankLaws
+pub mod SetLaws

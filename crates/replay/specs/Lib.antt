@@ -1,6 +1,3 @@
-pub mod Room
-pub mod Replies
-pub mod RoomLaws
-pub mod CallLaws
-pub mod ReplyLaws
-pub mod Sentences
+pub mod Run
+pub mod RunLaws
+pub mod Whole

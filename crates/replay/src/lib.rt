@@ -1,7 +1,5 @@
-// One step of a log: a line in, its answer out, and the tables changed as the line says.
-mod room; // room.rt: the part of the starts that a town needs, a position from its bits
-mod changes; // changes.rt: the records that change the tables
-mod looks; // looks.rt: the records that only read them
-mod steps; // steps.rt: one step
+// The log, answered piece by piece.
+mod answers; // answers.rt: a piece of the log, and its end
 
-pub use steps::step;
+pub use answers::answer_end;
+pub use answers::answer_piece;

@@ -13,7 +13,7 @@ use Rattle.order.specs.TestLaws.{true-not-false}
 use Rattle.squares.specs.declared.shape.Shape.{Shape}
 use Rattle.squares.specs.declared.shape.Rect.{Rect}
 use Rattle.squares.specs.Bounds.{Allowed}
-use Rattle.squares.specs.Cut.{holds}
+use Rattle.squares.specs.Shape.{holds}
 use Rattle.squares.specs.ShapeLaws.{→allowed}
 use Rattle.position.specs.declared.Spot.{Spot}
 use Rattle.position.specs.Answer.{onTown}

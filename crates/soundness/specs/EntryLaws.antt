@@ -13,7 +13,8 @@ use Rattle.squares.specs.declared.shape.Rect.{Rect}
 use Rattle.squares.specs.declared.shape.Square.{Square}
 use Rattle.squares.specs.Squares.{squares, squaresOn}
 use Rattle.squares.specs.Made.{squareOf}
-use Rattle.squares.specs.Cut.{within, inside, inCut}
+use Rattle.squares.specs.Shape.{within}
+use Rattle.cuts.specs.Cut.{inside, inCut}
 use Rattle.squares.specs.Leaves.{Near}
 use Rattle.squares.specs.ShapeLaws.{blocks-small, squares-small}
 use Rattle.squares.specs.SquareLaws.{corner-x-fits, corner-y-fits}

@@ -14,7 +14,7 @@ use Rattle.squares.specs.declared.shape.Rect.{Rect}
 use Rattle.squares.specs.Shape.{fits, mostZones}
 use Rattle.squares.specs.Bounds.{Allowed, Fits}
 use Rattle.squares.specs.Squares.{squares, squaresOn}
-use Rattle.squares.specs.Cut.{inCut}
+use Rattle.cuts.specs.Cut.{inCut}
 use Rattle.position.specs.declared.Position.{Position}
 use Rattle.position.specs.Answer.{onTown}
 use Rattle.model.specs.Model.{Town, holdsCar, cutSize}

@@ -11,7 +11,7 @@ use Rattle.squares.specs.declared.shape.Shape.{Shape}
 use Rattle.squares.specs.declared.shape.Rect.{Rect}
 use Rattle.squares.specs.Shape.{fits}
 use Rattle.squares.specs.Bounds.{Fits}
-use Rattle.squares.specs.Leaves.{Counted}
+use Rattle.cuts.specs.Leaves.{Counted}
 use Rattle.tables.specs.Tables.{rectIn, standsIn}
 use Rattle.soundness.specs.Tests.{zoneFits, sizeAt, Fitting, SizeOf}
 

@@ -3,7 +3,7 @@ use squares::Rect;
 use squares::Shape;
 use tables::rect_in;
 ghost use mathlib.Core.Path.{_≡_};
-ghost use Rattle.squares.specs.Cut.{inside, inCut};
+ghost use Rattle.cuts.specs.Cut.{inside, inCut};
 ghost use Rattle.soundness.specs.Tests.{InTown, At, Both, Fitting, keyRight};
 
 // A square by its level and its number there.

@@ -1,9 +1,9 @@
 // The lists of the squares: whether the entries in use are the right ones, and whether each list starts where it should.
 use crate::entry::key_right;
+use cuts::cut_count;
 use order::ends_below;
 use order::wide;
 use squares::Shape;
-use squares::cut_count;
 use tables::rect_in;
 ghost use Prim.Native.Nat.{_-_, _<_, _≤_};
 ghost use mathlib.Core.Path.{_≡_};

@@ -1,27 +1,14 @@
 -- Definitions, then what the functions below the calls promise, then laws.
 pub mod Shape
 pub mod Squares
-pub mod Cut
 pub mod Refusals
-pub mod Promises
 pub mod Bounds
 pub mod Made
 pub mod Leaves
-pub mod Descent
-pub mod Count
 pub mod RefusalLaws
 pub mod PowerLaws
 pub mod ShapeLaws
 pub mod SquareLaws
 pub mod DifferLaws
-pub mod GridLaws
 pub mod CornerLaws
 pub mod RectLaws
-pub mod CutLaws
-pub mod CountLaws
-pub mod DescentLaws
-pub mod BlockLaws
-pub mod StepLaws
-pub mod LoopLaws
-pub mod PromiseLaws
-pub mod Unique

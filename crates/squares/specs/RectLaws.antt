@@ -8,8 +8,8 @@ use lib.Dec.{leb, ltb}
 use borrow.Author.Tests.{le-leb, lt-leb, lt-ltb, le-ltb, leb-true, ltb-true}
 use Rattle.order.specs.TestLaws.{true-not-false, and→, fails, both-ways}
 use Rattle.squares.specs.declared.shape.Rect.{Rect}
-use Rattle.squares.specs.Cut.{holds, within}
-use Rattle.squares.specs.Descent.{meets}
+use Rattle.squares.specs.Shape.{holds, within}
+use Rattle.squares.specs.Leaves.{meets}
 
 -- four tests in a row
 record All (a b c d : Bool) : Type 0 where

@@ -42,3 +42,11 @@ allowed s = leb (s .k) largestK && (ltb 0 (s .P) && (ltb 0 (s .Q) && (leb (width
 -- a rectangle has cells and lies in the town: what check 9 asks
 abbrev pub fits : Shape → Rect → Bool
 fits s r = ltb 0 (r .w) && (ltb 0 (r .h) && (leb (r .a + r .w) (width s) && leb (r .b + r .h) (height s)))
+
+-- the cells of a rectangle
+abbrev pub holds : Rect → ℕ → ℕ → Bool
+holds r x y = leb (r .a) x && (ltb x (r .a + r .w) && (leb (r .b) y && ltb y (r .b + r .h)))
+
+-- the square with corner (x, y) and side d lies wholly inside
+abbrev pub within : Rect → ℕ → ℕ → ℕ → Bool
+within r x y d = leb (r .a) x && (leb (x + d) (r .a + r .w) && (leb (r .b) y && leb (y + d) (r .b + r .h)))

@@ -5,12 +5,11 @@ use crate::powers::interleaved;
 use crate::powers::two_to;
 ghost use mathlib.Core.Path.{_≡_};
 ghost use Prim.Native.Nat.{_*_, _<_};
-ghost use Rattle.squares.specs.Shape.{largestSide, allowed, side, width, height, fits};
+ghost use Rattle.squares.specs.Shape.{largestSide, allowed, side, width, height, fits, holds};
 ghost use Rattle.squares.specs.Made.{shaped};
 ghost use Rattle.squares.specs.Bounds.{Allowed};
 ghost use Rattle.squares.specs.Squares.{sideOn, squaresOn, squares, block, number, isCorner};
 ghost use Rattle.squares.specs.Made.{squareOf};
-ghost use Rattle.squares.specs.Cut.{holds};
 ghost use Rattle.squares.specs.Leaves.{Positive, Below, OnMap, OnLevel};
 
 // k, P and Q of a town: blocks of side 2^k, P of them west to east and Q south to north.

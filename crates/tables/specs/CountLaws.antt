@@ -12,8 +12,8 @@ use Rattle.order.specs.SumLaws.{sum-ext, sum-none, sum-add, sum-swap, sum-grid,
 use Rattle.squares.specs.declared.shape.Shape.{Shape}
 use Rattle.squares.specs.declared.shape.Rect.{Rect}
 use Rattle.squares.specs.Squares.{squares, squaresOn}
-use Rattle.squares.specs.Cut.{inCut, cutOn, cutTo, cut}
-use Rattle.squares.specs.CutLaws.{length-cut-on}
+use Rattle.cuts.specs.Cut.{inCut, cutOn, cutTo, cut}
+use Rattle.cuts.specs.CutLaws.{length-cut-on}
 use Rattle.model.specs.Model.{cutSize, entriesUsed}
 use Rattle.tables.specs.Tables.{Tables, shapeOf, zoneRoom, rectOf, standsIn, stands, zoneIn, townOf}
 use Rattle.tables.specs.Sizes.{Sized}

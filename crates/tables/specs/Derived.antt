@@ -8,7 +8,7 @@ use Rattle.order.specs.Order.{upto, keep}
 use Rattle.order.specs.Sums.{bit}
 use Rattle.squares.specs.declared.shape.Shape.{Shape}
 use Rattle.squares.specs.Squares.{squares}
-use Rattle.squares.specs.Cut.{inCut}
+use Rattle.cuts.specs.Cut.{inCut}
 use Rattle.tables.specs.Tables.{Tables, Derived, shapeOf, zoneRoom, carRoom, entryRoom, rectOf, stands, rosterHas}
 
 -- ---- places: all squares of a town in one row, level 0 first, rising number within a level

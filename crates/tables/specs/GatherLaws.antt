@@ -18,7 +18,7 @@ use Rattle.order.specs.TestLaws.{true-or-false, true-not-false, both-ways, and�
 use Rattle.order.specs.KeepLaws.{span→, →span, keep→, →keep, keep-yes, keep-no, keep-ext}
 use Rattle.squares.specs.Squares.{squares}
 use Rattle.squares.specs.declared.shape.Rect.{Rect}
-use Rattle.squares.specs.Cut.{holds}
+use Rattle.squares.specs.Shape.{holds}
 use Rattle.tables.specs.Tables.{Tables, shapeOf, rectIn, zoneRoom}
 use Rattle.tables.specs.Derived.{on}
 use Rattle.tables.specs.Sound.{Sound}

@@ -6,7 +6,7 @@ use mathlib.Core.List.{List, [], _∷_}
 use mathlib.Core.Option.{none, some}
 use native.Mathlib.Omega.{arith}
 use lib.ListN.{length, set}
-use Rattle.squares.specs.Cut.{holds}
+use Rattle.squares.specs.Shape.{holds}
 use Rattle.position.specs.Answer.{columnOf, rowOf}
 use Rattle.model.specs.Model.{known, there}
 use Rattle.tables.specs.Tables.{Tables, Derived, shapeOf, rectOf, stands, standsIn, placed, placedIn, spotOf, zoneIn, carIn, zoneHolds, rosterHas}

@@ -13,11 +13,11 @@ use borrow.Author.Tests.{le-ltb}
 use Rattle.order.specs.Order.{span, upto, keep}
 use Rattle.order.specs.TestLaws.{lt-or-le, true-or-false, true-not-false, and→}
 use Rattle.order.specs.KeepLaws.{span-add, keep-append}
-use Rattle.squares.specs.Shape.{width, height}
+use Rattle.squares.specs.Shape.{width, height, holds}
 use Rattle.squares.specs.Squares.{squares, squaresOn, number}
-use Rattle.squares.specs.Cut.{holds, inCut}
+use Rattle.cuts.specs.Cut.{inCut}
 use Rattle.squares.specs.SquareLaws.{number-below}
-use Rattle.squares.specs.CutLaws.{one-level, no-level}
+use Rattle.cuts.specs.CutLaws.{one-level, no-level}
 use Rattle.tables.specs.Tables.{Tables, shapeOf, zoneRoom, entryRoom, rectOf, stands, zoneHolds}
 use Rattle.tables.specs.Sizes.{Sized}
 use Rattle.tables.specs.Derived.{place, on, keysTo, used, free}

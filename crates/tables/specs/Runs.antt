@@ -8,7 +8,7 @@ use lib.ListN.{length, getD, take, drop}
 use Rattle.order.specs.Order.{keep, over}
 use Rattle.order.specs.Buffer.{putIn, Put}
 use Rattle.squares.specs.declared.shape.Shape.{Shape}
-use Rattle.squares.specs.Cut.{holds}
+use Rattle.squares.specs.Shape.{holds}
 use Rattle.tables.specs.Tables.{rectIn}
 
 -- the place of the parent of the square at a place

@@ -4,7 +4,7 @@ use mathlib.Core.List.{List, [], _∷_}
 use lib.ListN.{getD, take}
 use Rattle.squares.specs.Refusals.{Answer, refuse, accept}
 use Rattle.model.specs.Answers.{Values, numbers, spot}
-use Rattle.line.specs.Text.{Part, number, members, answer}
+use Rattle.print.specs.Text.{Part, number, members, answer}
 
 -- the letters of the records
 pub data Letter : Type 0 where

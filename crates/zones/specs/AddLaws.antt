@@ -12,8 +12,8 @@ use Rattle.squares.specs.declared.shape.Shape.{Shape}
 use Rattle.squares.specs.declared.shape.Rect.{Rect}
 use Rattle.squares.specs.Bounds.{Fits}
 use Rattle.squares.specs.Squares.{squares}
-use Rattle.squares.specs.Cut.{cut}
-use Rattle.squares.specs.Leaves.{AllRoom}
+use Rattle.cuts.specs.Cut.{cut}
+use Rattle.cuts.specs.Leaves.{AllRoom}
 use Rattle.squares.specs.ShapeLaws.{fits→}
 use Rattle.squares.specs.Refusals.{first}
 use Rattle.squares.specs.RefusalLaws.{clear}
@@ -32,8 +32,8 @@ use Rattle.tables.specs.Asks.{Parked}
 use Rattle.tables.specs.Sound.{Sound}
 use Rattle.tables.specs.Steps.{withZone}
 use Rattle.tables.specs.Lent.{both}
-use Rattle.edits.specs.Keys.{AddRoom, KeysAdded}
-use Rattle.edits.specs.Inside.{RowMarked}
+use Rattle.entries.specs.Keys.{AddRoom, KeysAdded}
+use Rattle.rosters.specs.Inside.{RowMarked}
 use Rattle.edits.specs.AddLaws.{added-is, cars-added}
 use Rattle.promises.specs.Promise.{means, bars, Keeps}
 use Rattle.promises.specs.Events.{added}

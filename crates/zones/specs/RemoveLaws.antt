@@ -17,7 +17,8 @@ use Rattle.tables.specs.Rows.{RowThere}
 use Rattle.tables.specs.RowLaws.{row-in}
 use Rattle.tables.specs.Steps.{withoutZone}
 use Rattle.tables.specs.Lent.{both}
-use Rattle.edits.specs.Edits.{rowCleared, Drops}
+use Rattle.rosters.specs.Rosters.{rowCleared}
+use Rattle.entries.specs.Drops.{Drops}
 use Rattle.edits.specs.StepLaws.{removed-is}
 use Rattle.promises.specs.Promise.{means, bars, Keeps}
 use Rattle.promises.specs.Events.{removed}

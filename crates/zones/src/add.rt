@@ -56,14 +56,14 @@ pub fn add_zone(
     }
     let s = tables::shape_in(head);
     let used = starts[starts.len() - 1] as usize;
-    let n = squares::cut_count(s, r);
+    let n = cuts::cut_count(s, r);
     if entries.len() < used + n {
         return Added::Refused(12);
     }
     let z = zone as usize;
     let many = tables::car_room(head);
     edits::write_zone(zones, z, r);
-    edits::add_keys(s, r, zone, used, starts, entries);
-    let inside = edits::fill_row(s, cars, spots, r, rosters, z, many);
+    entries::add_keys(s, r, zone, used, starts, entries);
+    let inside = rosters::fill_row(s, cars, spots, r, rosters, z, many);
     Added::Done(n, inside)
 }

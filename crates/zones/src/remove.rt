@@ -24,7 +24,7 @@ pub fn remove_zone(
     let z = zone as usize;
     let many = tables::car_room(head);
     edits::clear_zone(zones, z);
-    edits::drop_keys(starts, entries, zone);
-    edits::clear_row(rosters, z, many);
+    entries::drop_keys(starts, entries, zone);
+    rosters::clear_row(rosters, z, many);
     Removed::Done
 }

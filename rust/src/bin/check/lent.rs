@@ -28,6 +28,12 @@ impl Word for u8 {
     }
 }
 
+impl Word for usize {
+    fn random(random: &mut Random) -> usize {
+        random.word() as usize
+    }
+}
+
 pub struct Lent<T> {
     memory: Vec<T>,
     image: Vec<T>,
@@ -185,6 +191,14 @@ impl Tables {
         right.into_iter().filter(|table| !table.0).map(|table| table.1).collect()
     }
 
+    /// Takes as right what stands in the tables.
+    pub fn accept_all(&mut self) {
+        self.words().into_iter().for_each(|table| {
+            table.accept();
+        });
+        self.rosters.accept();
+    }
+
     /// Takes as right what stands in the tables that a call may change, but of the spots only its own car's.
     pub fn accept(&mut self, call: &Call) {
         let changed = call.changes();
@@ -222,6 +236,34 @@ macro_rules! read {
     ($call:ident, $t:ident $(, $rest:expr)*) => {
         lend!($call, $t, [shared shared shared shared shared shared shared] $(, $rest)*)
     };
+}
+
+impl Tables {
+    /// Answers a piece of a log, or without one its end.
+    pub fn log(
+        &mut self,
+        piece: Option<&[u8]>,
+        held: &mut Lent<u8>,
+        out: &mut Lent<u8>,
+        values: &mut Lent<usize>,
+    ) -> u32 {
+        let (bytes, bytes_len) = (held.mutable(), held.lent);
+        let (text, text_len) = (out.mutable(), out.lent);
+        let (told, told_len) = (values.mutable(), values.lent);
+        // SAFETY: each pointer is of memory of its own and valid for the length lent.
+        unsafe {
+            match piece {
+                Some(piece) => lend!(
+                    unwadegiro_log, self, [mutable mutable mutable mutable mutable mutable mutable],
+                    piece.as_ptr(), piece.len(), bytes, bytes_len, text, text_len, told, told_len
+                ),
+                None => lend!(
+                    unwadegiro_log_end, self, [mutable mutable mutable mutable mutable mutable mutable],
+                    bytes, bytes_len, text, text_len, told, told_len
+                ),
+            }
+        }
+    }
 }
 
 /// Makes a call with what is lent, and answers what it returned.

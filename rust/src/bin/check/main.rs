@@ -6,6 +6,7 @@ mod brute;
 mod calls;
 mod layout;
 mod lent;
+mod logs;
 mod random;
 
 use brute::{Answer, Brute};
@@ -471,6 +472,7 @@ fn main() {
     let mut check = Check::new(seed);
     check.run(calls);
     let all = check.tell();
+    logs::run(&mut check.random, (calls / 50_000).max(1) as u32);
     println!(
         "{} calls with seed {seed}: all answers, values, buffers, tables and guards as they should be",
         check.made

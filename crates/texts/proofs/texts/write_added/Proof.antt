@@ -25,10 +25,10 @@ enum-known-said-2 : tie.Need-enum-known-said-2
 enum-known-said-2 c = search needs
 
 cast-write-numbers : tie.Need-cast-write-numbers
-cast-write-numbers c = let at = done c in omega (arith, said-few addedIs (at .said2 .given .1) 0 2048 (start at .pre .0))
+cast-write-numbers c = let at = done c in omega (arith, said-few addedIs (at .said2 .given .1) 0 4294967295 (start at .pre .0))
 
 cast-write-numbers-2 : tie.Need-cast-write-numbers-2
-cast-write-numbers-2 c = let at = done c in omega (arith, said-few addedIs (at .said2 .given .1) 1 64 (start at .pre .1))
+cast-write-numbers-2 c = let at = done c in omega (arith, said-few addedIs (at .said2 .given .1) 1 4294967295 (start at .pre .1))
 
 write-numbers-requires : tie.Need-write-numbers-requires
 write-numbers-requires c κs = search needs

@@ -1,26 +1,22 @@
 -- `write_left` writes the refusal, or a number and the list at the front of the buffer.
-use Prim.Native.Nat.{_≤_}
-use mathlib.Core.Path.{_≡_}
 use native.Mathlib.Omega.{arith}
-use lib.ListN.{length, take}
 use Rattle.model.specs.Answers.{leftIs}
 use Rattle.texts.specs.Texts.{Letter}
-use Rattle.texts.specs.SaidLaws.{said-text, said-front}
+use Rattle.texts.specs.FrontLaws.{fronts-count, fronts-few}
+use Rattle.texts.specs.SaidLaws.{said-text}
 use borrow.Author.Needs.{needs}
 use Rattle.texts.proofs.texts.write_left.Statement.{statement}
 use Rattle.texts.proofs.texts.write_left.Tie as tie
 
--- ---- the case that the answer is
+-- ---- stations: from each the one before it
 
-abbrev start : tie.After-said2 → tie.Start
-start c = c .before .before .before .before
+abbrev done : tie.After-front → tie.After-said2
+done c = c .before .before
 
-abbrev done : tie.After-write-list-arg2 → tie.After-said2
-done c = c .before .before .before
+abbrev counted : tie.After-write-list-arg2 → tie.After-front
+counted c = c .before .before
 
--- the list fits
-fits : (c : tie.After-said2) → let n = c .said2 .given .0 .1 .0 in let b = start c .args .left .now in (n ≡ length (take n b)) × (length (take n b) ≤ 16)
-fits c = said-front leftIs (c .said2 .given .1) 1 16 (start c .args .left .now) (start c .pre .0) (start c .pre .1)
+-- ---- needs
 
 enum-known-said : tie.Need-enum-known-said
 enum-known-said c = search needs
@@ -31,11 +27,14 @@ write-number-requires c κs = search needs
 enum-known-said-2 : tie.Need-enum-known-said-2
 enum-known-said-2 c = search needs
 
+front-requires : tie.Need-front-requires
+front-requires c κs = search needs
+
 slice-aggregate-write-list : tie.Need-slice-aggregate-write-list
-slice-aggregate-write-list c = fits (done c) .0
+slice-aggregate-write-list c = fronts-count (counted c .front .ensures)
 
 write-list-requires : tie.Need-write-list-requires
-write-list-requires c κs = omega (arith, fits (done c) .1)
+write-list-requires c κs = omega (arith, fronts-few (counted c .front .ensures))
 
 same-length : tie.Need-same-length
 same-length c = search needs
@@ -47,7 +46,10 @@ same-length-2 : tie.Need-same-length-2
 same-length-2 c = search needs
 
 returns-2 : tie.Need-returns-2
-returns-2 c = let wrote = c .before .before in said-text leftIs (done (wrote .before) .said2 .given .1) Letter.L _ (wrote .write-list .ensures)
+returns-2 c =
+    let wrote = c .before .before in
+    let lent = counted (wrote .before) in
+    said-text leftIs (done lent .said2 .given .1) Letter.L _ (rw (lent .front .ensures .is) at (wrote .write-list .ensures))
 
 pub write-left-spec : {M : Type 1} → statement M
 write-left-spec =
@@ -56,6 +58,7 @@ write-left-spec =
     enum-known-said
     write-number-requires
     enum-known-said-2
+    front-requires
     slice-aggregate-write-list
     write-list-requires
     same-length

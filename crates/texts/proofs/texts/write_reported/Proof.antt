@@ -1,28 +1,25 @@
 -- `write_reported` writes the refusal, or a number and the lists at the fronts of both buffers.
-use Prim.Native.Nat.{_≤_}
-use mathlib.Core.Path.{_≡_}
-use lib.ListN.{length, take}
+use native.Mathlib.Omega.{arith}
 use Rattle.model.specs.Answers.{reportedIs}
 use Rattle.texts.specs.Texts.{Letter}
-use Rattle.texts.specs.SaidLaws.{said-text, said-front}
+use Rattle.texts.specs.FrontLaws.{fronts-count, fronts-few}
+use Rattle.texts.specs.SaidLaws.{said-text}
 use borrow.Author.Needs.{needs}
 use Rattle.texts.proofs.texts.write_reported.Statement.{statement}
 use Rattle.texts.proofs.texts.write_reported.Tie as tie
 
--- ---- the case that the answer is
+-- ---- stations: from each the one before it
 
-abbrev start : tie.After-said2 → tie.Start
-start c = c .before .before .before .before .before
+abbrev done : tie.After-front → tie.After-said2
+done c = c .before .before
 
-abbrev done : tie.After-write-lists-arg2 → tie.After-said2
-done c = c .before .before .before
+abbrev entered : tie.After-front2 → tie.After-front
+entered c = c .before
 
--- both lists fit
-came : (c : tie.After-said2) → let n = c .said2 .given .0 .1 .0 in let b = start c .args .entered .now in (n ≡ length (take n b)) × (length (take n b) ≤ 16)
-came c = said-front reportedIs (c .said2 .given .1) 1 16 (start c .args .entered .now) (start c .pre .0) (start c .pre .1 .1 .0)
+abbrev left : tie.After-write-lists-arg2 → tie.After-front2
+left c = c .before .before
 
-gone : (c : tie.After-said2) → let n = c .said2 .given .0 .1 .1 .0 in let b = start c .args .left .now in (n ≡ length (take n b)) × (length (take n b) ≤ 16)
-gone c = said-front reportedIs (c .said2 .given .1) 2 16 (start c .args .left .now) (start c .pre .1 .0) (start c .pre .1 .1 .1)
+-- ---- needs
 
 enum-known-said : tie.Need-enum-known-said
 enum-known-said c = search needs
@@ -33,14 +30,22 @@ write-number-requires c κs = search needs
 enum-known-said-2 : tie.Need-enum-known-said-2
 enum-known-said-2 c = search needs
 
+front-requires : tie.Need-front-requires
+front-requires c κs = search needs
+
+front-requires-2 : tie.Need-front-requires-2
+front-requires-2 c κs = search needs
+
 slice-aggregate-write-lists : tie.Need-slice-aggregate-write-lists
-slice-aggregate-write-lists c = came (done c) .0
+slice-aggregate-write-lists c = fronts-count (entered (left c) .front .ensures)
 
 slice-aggregate-write-lists-2 : tie.Need-slice-aggregate-write-lists-2
-slice-aggregate-write-lists-2 c = gone (done (c .before)) .0
+slice-aggregate-write-lists-2 c = fronts-count (left (c .before) .front2 .ensures)
 
 write-lists-requires : tie.Need-write-lists-requires
-write-lists-requires c κs = let at = done (c .before) in (came at .1, gone at .1)
+write-lists-requires c κs =
+    let second = left (c .before) in
+    (omega (arith, fronts-few (entered second .front .ensures)), omega (arith, fronts-few (second .front2 .ensures)))
 
 same-length : tie.Need-same-length
 same-length c = search needs
@@ -52,7 +57,11 @@ same-length-2 : tie.Need-same-length-2
 same-length-2 c = search needs
 
 returns-2 : tie.Need-returns-2
-returns-2 c = let wrote = c .before .before in said-text reportedIs (done (wrote .before .before) .said2 .given .1) Letter.P _ (wrote .write-lists .ensures)
+returns-2 c =
+    let wrote = c .before .before in
+    let second = left (wrote .before .before) in
+    let first = entered second in
+    said-text reportedIs (done first .said2 .given .1) Letter.P _ (rw (first .front .ensures .is, second .front2 .ensures .is) at (wrote .write-lists .ensures))
 
 pub write-reported-spec : {M : Type 1} → statement M
 write-reported-spec =
@@ -61,6 +70,8 @@ write-reported-spec =
     enum-known-said
     write-number-requires
     enum-known-said-2
+    front-requires
+    front-requires-2
     slice-aggregate-write-lists
     slice-aggregate-write-lists-2
     write-lists-requires

@@ -1,0 +1,11 @@
+pub mod Cut
+pub mod Leaves
+pub mod Descent
+pub mod Count
+pub mod GridLaws
+pub mod CutLaws
+pub mod CountLaws
+pub mod DescentLaws
+pub mod BlockLaws
+pub mod StepLaws
+pub mod LoopLaws

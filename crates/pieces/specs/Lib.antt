@@ -1,0 +1,5 @@
+pub mod Pieces
+pub mod Leaves
+pub mod FillLaws
+pub mod PromiseLaws
+pub mod PieceLaws

@@ -1,0 +1,4 @@
+pub mod Text
+pub mod Leaves
+pub mod TextLaws
+pub mod Examples

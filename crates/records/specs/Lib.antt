@@ -1,0 +1,5 @@
+pub mod Replies
+pub mod CallLaws
+pub mod ReplyLaws
+pub mod AfterLaws
+pub mod Sentences

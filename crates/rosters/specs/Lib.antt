@@ -1,0 +1,4 @@
+pub mod Rosters
+pub mod Inside
+pub mod RosterLaws
+pub mod InsideLaws

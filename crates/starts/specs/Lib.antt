@@ -1,0 +1,4 @@
+pub mod Starts
+pub mod Shift
+pub mod RankLaws
+pub mod ShiftLaws

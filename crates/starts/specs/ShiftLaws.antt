@@ -1,0 +1,95 @@
+-- Laws of numbers moved by ranges: from one key's place to the next by one more.
+use Prim.Native.Nat.{ℕ, _+_, _*_, _%_, _^_, _<_, _≤_}
+use mathlib.Core.Path.{_≡_, refl, ap, sym, _∙_}
+use mathlib.Core.List.{List}
+use native.Mathlib.Omega.{arith}
+use native.Mathlib.Numerals.{add-one}
+use native.Mathlib.Nat.{zero-add, add-zero}
+use lib.ListN.{length, getD, take, drop, set, length-set}
+use lib.Seq.{getD-set-same, getD-set-other, getD-take, length-take-le}
+use mathlib.Core.Logic.{⊎-elim}
+use Rattle.order.specs.TestLaws.{lt-or-le}
+use Rattle.order.specs.Buffer.{rank}
+use Rattle.order.specs.BufferLaws.{rank-stop, rank-go, rank-end}
+use Rattle.starts.specs.Starts.{Reaches}
+use Rattle.starts.specs.Shift.{shifted, Shifting, Shifts, plus, less, Moved}
+
+-- ---- one range
+
+pub shift-begins : (d : List ℕ) (p end v : ℕ) → p ≤ length d → Shifting d d p end v p
+shift-begins d p end v h = record { moved = λ (n : ℕ) (a : p ≤ n) (b : n < p). absurd (omega arith); before = λ n a. refl; after = λ n a. refl; long = refl; low = omega arith; most = h; no-more = λ (n : ℕ) (a : p ≤ n) (b : n < p). absurd (omega arith) }
+
+module _ {d l : List ℕ} {p end v q : ℕ} (k : Shifting d l p end v q) where
+  pub shift-turns : q < end → end ≤ length d → (x : ℕ) → x ≡ (getD l q 0 + v) % 2 ^ 32 → Shifting d (set l q x) p end v (q + 1)
+  shift-turns h g x e = record {
+    moved = λ (n : ℕ) (a : p ≤ n) (b : n < q + 1). now n a b;
+    before = λ (n : ℕ) (a : n < p). getD-set-other l q n x 0 (λ (z : n ≡ q). omega (arith, k .low)) ∙ k .before n a;
+    after = λ (n : ℕ) (a : q + 1 ≤ n). getD-set-other l q n x 0 (λ (z : n ≡ q). omega arith) ∙ k .after n (omega arith);
+    long = length-set l q x ∙ k .long;
+    low = omega (arith, k .low);
+    most = omega arith;
+    no-more = λ (n : ℕ) (a : p ≤ n) (b : n < q + 1). omega arith;
+  }
+    where
+      now : (n : ℕ) → p ≤ n → n < q + 1 → getD (set l q x) n 0 ≡ shifted v (getD d n 0)
+      now n a b = ⊎-elim (λ (m : n < q). getD-set-other l q n x 0 (λ (z : n ≡ q). omega arith) ∙ k .moved n a m) (λ (m : q ≤ n). let z : n ≡ q = omega arith in rw z (getD-set-same l q x 0 (omega (arith, k .long, h, g)) ∙ e ∙ ap (shifted v) (k .after q (omega arith)))) (lt-or-le n q)
+
+-- ---- from key to key
+
+-- From place lo on the numbers up to p are moved, each by what c makes of how many of the keys lie before its place;
+-- j keys are passed, and those lie before every place from p on.
+pub record Moving (c : ℕ → ℕ) (keys d l : List ℕ) (lo p j : ℕ) : Type 0 where
+  pub moved : (q : ℕ) → lo ≤ q → q < p → getD l q 0 ≡ shifted (c (rank (q * 256) keys)) (getD d q 0)
+  pub before : (q : ℕ) → q < lo → getD l q 0 ≡ getD d q 0
+  pub after : (q : ℕ) → p ≤ q → getD l q 0 ≡ getD d q 0
+  pub long : length l ≡ length d
+  pub low : lo ≤ p
+  pub most : p ≤ length d
+  pub few : j ≤ length keys
+  pub passed : (q : ℕ) → p ≤ q → q < length d → rank (q * 256) keys ≡ j + rank (q * 256) (drop j keys)
+
+pub move-begins : (c : ℕ → ℕ) (keys d : List ℕ) (lo : ℕ) → lo ≤ length d → Moving c keys d d lo lo 0
+move-begins c keys d lo h = record { moved = λ (q : ℕ) (a : lo ≤ q) (b : q < lo). absurd (omega arith); before = λ q a. refl; after = λ q a. refl; long = refl; low = omega arith; most = h; few = omega arith; passed = λ q a b. sym (zero-add (rank (q * 256) keys)) }
+
+module _ {c : ℕ → ℕ} {keys d l : List ℕ} {lo p j : ℕ} (k : Moving c keys d l lo p j) where
+  -- a range of places that have j keys before them
+  move-range : {l′ : List ℕ} {end r : ℕ} → Shifts l l′ p end (c j) r → ((q : ℕ) → p ≤ q → q < r → rank (q * 256) keys ≡ j) → (q : ℕ) → lo ≤ q → q < r → getD l′ q 0 ≡ shifted (c (rank (q * 256) keys)) (getD d q 0)
+  move-range {l′} {end} {r} f same q a b = ⊎-elim
+      (λ (h : q < p). f .part .before q h ∙ k .moved q a h)
+      (λ (h : p ≤ q). rw (same q h b) (f .part .moved q h b ∙ ap (shifted (c j)) (k .after q h)))
+      (lt-or-le q p)
+
+  pub move-turns : {l′ : List ℕ} {end r : ℕ} → j < length keys → Reaches (getD keys j 0) (length d) end → Shifts l l′ p end (c j) r → Moving c keys d l′ lo r (j + 1)
+  move-turns {l′} {end} {r} h reach f = record {
+    moved = move-range f (λ q a b. k .passed q a (omega (arith, f .part .most, k .long)) ∙ ap (λ (n : ℕ). j + n) (rank-stop (q * 256) keys j h (reach .own q (f .part .no-more q a b))) ∙ add-zero j);
+    before = λ (q : ℕ) (a : q < lo). f .part .before q (omega (arith, k .low)) ∙ k .before q a;
+    after = λ (q : ℕ) (a : r ≤ q). f .part .after q a ∙ k .after q (omega (arith, f .part .low));
+    long = f .part .long ∙ k .long;
+    low = omega (arith, f .part .low, k .low);
+    most = omega (arith, f .part .most, k .long);
+    few = omega arith;
+    passed = λ q a b. k .passed q (omega (arith, f .part .low)) b ∙ ap (λ (n : ℕ). j + n) (rank-go (q * 256) keys j h (reach .after q (omega (arith, f .reached)) b)) ∙ rw (add-one j) (omega arith);
+  }
+
+  -- the places after the last key
+  pub move-ends : {l′ : List ℕ} {r : ℕ} → length keys ≤ j → Shifts l l′ p (length d) (c j) r → Moved c keys lo d l′
+  move-ends {l′} {r} h f =
+      let e : r ≡ length d = omega (arith, f .reached, f .part .most, k .long) in
+      record {
+        each = λ (q : ℕ) (a : lo ≤ q) (b : q < length d). move-range f (λ (m : ℕ) (x : p ≤ m) (y : m < r). k .passed m x (omega arith) ∙ ap (λ (n : ℕ). j + n) (rank-end (m * 256) keys j h) ∙ add-zero j) q a (omega arith);
+        long = f .part .long ∙ k .long;
+      }
+
+-- ---- the keys at the front
+
+-- a key as the loop reads it
+pub key-there : {d l : List ℕ} {n p j : ℕ} → Moving plus (take n d) d l n p j → j < n → getD l j 0 ≡ getD (take n d) j 0
+key-there {d} {l} {n} {p} {j} k g = k .before j g ∙ sym (getD-take n d j 0 g)
+
+pub key-few : {d l : List ℕ} {n p j : ℕ} → Moving plus (take n d) d l n p j → j ≤ n
+key-few {d} {l} {n} {p} {j} k = omega (arith, k .few, length-take-le n d (omega (arith, k .low, k .most)))
+
+-- ---- down by one more for each key
+
+pub less-more : (n v v′ : ℕ) → v′ < 2 ^ 32 → (v′ + 1) % 2 ^ 32 ≡ v → v ≡ less n → v′ ≡ less (n + 1)
+less-more n v v′ h e f = omega arith
