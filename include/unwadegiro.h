@@ -37,8 +37,8 @@
  *
  * Cells. The town has W = P * 2^k columns, counted from 0 from the west, and H = Q * 2^k rows, counted from 0 from the
  * south. The cell of a position is the floor of x and of y: column floor(x), row floor(y). So x = 10.75 is column 10, and
- * x = 11 is column 11. A position is on the map where 0 <= x < W and 0 <= y < H and neither sign bit is set: -0.0f is not
- * on the map, nor is an infinity or a NaN.
+ * x = 11 is column 11. A position is on the map where 0 <= x < W and 0 <= y < H. So -0.0f is on the map, in cell 0, and is
+ * stored with its sign; no other number with the sign bit set is, nor an infinity or a NaN.
  *
  * Squares. The town is P blocks from west to east times Q from south to north, each of L by L cells, L = 2^k. Level i, for
  * 0 <= i <= k, splits each block into 4^i squares of side L / 2^i: level 0 is the block, level k the cells. The square of
@@ -158,7 +158,7 @@ uint32_t unwadegiro_remove(const uint32_t *head, size_t head_len, uint32_t *zone
                            uint8_t *rosters, size_t rosters_len, uint32_t zone);
 
 /*
- * Places a car on the map, or moves it. A position is on the map where 0 <= x < W and 0 <= y < H and no sign bit is set;
+ * Places a car on the map, or moves it. A position is on the map where 0 <= x < W and 0 <= y < H, -0.0f too;
  * its cell is column floor(x), row floor(y). `entered` gets the zones that hold the new cell and not the old, `left`
  * those that hold the old and not the new; each must have room for as many zones as the zone capacity. A car that was off
  * the map enters all that hold the new cell.

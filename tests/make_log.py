@@ -59,10 +59,10 @@ def just_below(value):
 
 
 def in_cell(cell):
-    """A coordinate in the cell: at its start, somewhere in it, or the last float before the next cell."""
+    """A coordinate in the cell: at its start, somewhere in it, or the last float before the next cell. Minus zero is at 0."""
     way = dice.below(4)
     if way == 0:
-        return at(cell)
+        return "80000000" if cell == 0 and dice.below(2) else at(cell)
     if way == 1:
         return just_below(cell + 1)
     return at(cell + dice.below(1024) / 1024)
@@ -160,7 +160,7 @@ def before_any_map():
     every = [
         ("A", 1, 0, 0, 1, 1), ("A", 16, 0, 0, 0, 0), ("A", 1, HIGH, 0, 1, 1), ("D", 1), ("D", 16),
         ("P", 1, at(1), at(1)), ("P", 64, at(1), at(1)), ("P", 1, "7FC00000", at(1)), ("L", 1), ("L", 64),
-        ("S", at(1), at(1)), ("S", "80000000", at(1)), ("R", 1), ("R", 16), ("R", HIGH),
+        ("S", at(1), at(1)), ("S", "80000001", at(1)), ("R", 1), ("R", 16), ("R", HIGH),
     ]
     for record in every:
         put(*record)
@@ -405,7 +405,7 @@ class Play:
 
     def wall(self):
         """Off the map, or at its last float, on one axis or both."""
-        over = ["80000000", "BF800000", "FF800000", "7F800000", "7FC00000"]
+        over = ["80000001", "BF800000", "FF800000", "7F800000", "7FC00000"]
         over += [at(self.W), at(self.H), hexed(bits_of(self.W) + 1)]
         x, y = in_cell(dice.below(self.W)), in_cell(dice.below(self.H))
         way = dice.below(3)

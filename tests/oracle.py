@@ -109,12 +109,12 @@ def cut_size(shape, r):
 
 
 def cell_along(bits, end):
-    """The cell of one coordinate, or None where it is not below the end or is no number of the map."""
+    """The cell of one coordinate, or None where it is no number, below 0, or not below the end. Minus zero is 0."""
     value = struct.unpack(">f", struct.pack(">I", bits))[0]
-    if bits >> 31 or not isfinite(value):
+    if not isfinite(value):
         return None
     exact = Fraction(value)
-    return floor(exact) if exact < end else None
+    return floor(exact) if 0 <= exact < end else None
 
 
 @lru_cache(maxsize=None)

@@ -113,3 +113,23 @@ fn log_without_its_last_feed() {
     log.end(&mut answers);
     assert_eq!(answers, b"M\t0\n");
 }
+
+#[test]
+fn west_wall() {
+    let mut town = Town::open(TOWN, ROOM).unwrap();
+    town.add(0, rectangle(0, 0, 1, 16)).unwrap();
+    assert_eq!(town.report(4, at(-0.0, 3.0)).unwrap().entered, [0]);
+    assert_eq!(town.where_is(4).unwrap().x.to_bits(), 0x8000_0000);
+    assert_eq!(town.search(at(3.0, -0.0)).unwrap().zones, []);
+    assert_eq!(town.report(4, at(0.0, 3.0)).unwrap().squares, 0);
+    assert_eq!(town.where_is(4).unwrap().x.to_bits(), 0);
+    for below in [f32::from_bits(0x8000_0001), -1.0, f32::NEG_INFINITY, f32::NAN, -f32::NAN] {
+        assert_eq!(town.report(4, at(below, 3.0)), Err(Refusal::PositionOffMap));
+        assert_eq!(town.search(at(3.0, below)), Err(Refusal::PositionOffMap));
+    }
+    town.report(4, at(-0.0, -0.0)).unwrap();
+    town.add(1, rectangle(0, 0, 2, 2)).unwrap();
+    assert_eq!(town.roster(1).unwrap(), [4]);
+    assert!(town.is_sound());
+    assert_eq!(town.leave(4).unwrap().left, [0, 1]);
+}

@@ -1,6 +1,6 @@
 -- A coordinate's cell, and whether it is on the map (document 01, "Positions"). Definitions only.
 use Prim.Native.Nat.{ℕ, _+_, _-_, _*_, _/_, _%_, _^_}
-use mathlib.Core.Bool.{Bool, not, _&&_, cond}
+use mathlib.Core.Bool.{Bool, not, _&&_, _||_, cond}
 use lib.Dec.{ltb, eqb}
 use lib.Ieee.{Float, binary32, toBits, isNan}
 
@@ -15,9 +15,9 @@ fraction bits = bits % 2 ^ 23
 unfoldable pub whole : ℕ → ℕ
 whole bits = cond (eqb (exponent bits) 0) (fraction bits) ((2 ^ 23 + fraction bits) * 2 ^ (exponent bits - 1))
 
--- bits of no infinity and no NaN, with the sign bit clear, and n below the side times 2 ^ 149
+-- bits of no infinity and no NaN, with a value of at least 0 (the sign bit is clear, or n is 0) and below the side
 unfoldable pub inRange : ℕ → ℕ → Bool
-inRange side bits = ltb (exponent bits) 255 && ltb bits (2 ^ 31) && ltb (whole bits) (side * 2 ^ 149)
+inRange side bits = ltb (exponent bits) 255 && (ltb bits (2 ^ 31) || eqb (whole bits) 0) && ltb (whole bits) (side * 2 ^ 149)
 
 -- a coordinate is on the map, on a side. lib.Ieee has one NaN, with no bits of its own, so it is named apart
 unfoldable pub onMap : ℕ → Float → Bool

@@ -1,9 +1,10 @@
 -- n / 2 ^ 149 is the exact value that lib.Ieee gives a float: so a cell is the floor of a real number, and the map's end a comparison of real numbers.
 -- A number is `fin s m e`: m * 2 ^ e, negative where s is true. 2 ^ e is the fraction up e / down e. Assumes nothing.
-use Prim.Native.Nat.{ℕ, zero, suc, _+_, _-_, _*_, _/_, _%_, _^_, _<_}
+use Prim.Native.Nat.{ℕ, zero, suc, _+_, _-_, _*_, _/_, _%_, _^_, _<_, _≤_}
 use mathlib.Core.Path.{_≡_, refl, sym, ap, ap₂, _∙_}
-use mathlib.Core.Bool.{Bool, true, false, not, _&&_, cond}
-use native.Mathlib.Nat.{mul-one, mul-comm, mul-right-comm, mul-div-mul-right, mul-le-mul-right, mul-lt-mul-of-pos-right, lt-of-mul-lt-mul-right, le-of-mul-le-mul-right}
+use mathlib.Core.Logic.{⊎-elim}
+use mathlib.Core.Bool.{Bool, true, false, not, _&&_, _||_, cond}
+use native.Mathlib.Nat.{mul-pos, mul-one, mul-comm, mul-right-comm, mul-div-mul-right, mul-le-mul-right, mul-lt-mul-of-pos-right, lt-of-mul-lt-mul-right, le-of-mul-le-mul-right}
 use native.Mathlib.Omega.{arith}
 use lib.Pow.{pow-pos, field}
 use lib.IntN.{ℤ}
@@ -13,6 +14,7 @@ use lib.Ieee.{Float, nan, inf, fin, binary32, up, down, fits, isNan, odd, ofFiel
 use lib.Ieee.Exact.{HasValue, odd-sign}
 use lib.Ieee.Bits.{ofBits-toBits}
 use lib.Ieee.Fits.{down-pos}
+use Rattle.order.specs.TestLaws.{lt-or-le}
 use Rattle.position.specs.Cell.{exponent, fraction, whole, inRange, onMap, cellOf}
 
 -- ---- n by its two cases
@@ -63,6 +65,15 @@ scaled n k a d c kp dp h = go (ltb a (c * d)) refl
     go true e = lt-ltb n (c * k) (lt-of-mul-lt-mul-right d (rw (h, mul-right-comm c k d) (mul-lt-mul-of-pos-right (ltb-true a (c * d) e) kp)))
     go false e = le-ltb n (c * k) (le-of-mul-le-mul-right (rw (h, mul-right-comm c k d) (mul-le-mul-right k (ltb-false a (c * d) e))) dp)
 
+-- and are 0 together
+zero-alike : (n k a d : ℕ) → 0 < k → 0 < d → n * d ≡ a * k → eqb n 0 ≡ eqb a 0
+zero-alike n k a d kp dp h = ⊎-elim
+    (λ (l : n < 1).
+    ⊎-elim (λ (g : a < 1). let x : n ≡ 0 = omega arith in let y : a ≡ 0 = omega arith in rw (x, y)) (λ (g : 1 ≤ a). let x : n ≡ 0 = omega arith in absurd (omega (arith, rw x at h, mul-pos {m = a} {n = k} (omega arith) kp))) (lt-or-le a 1))
+    (λ (l : 1 ≤ n).
+    ⊎-elim (λ (g : a < 1). let y : a ≡ 0 = omega arith in absurd (omega (arith, rw y at h, mul-pos {m = n} {n = d} (omega arith) dp))) (λ (g : 1 ≤ a). ne-eqb n 0 (omega arith) ∙ sym (ne-eqb a 0 (omega arith))) (lt-or-le a 1))
+    (lt-or-le n 1)
+
 -- ---- every number that an f32 holds
 
 module _ (s : Bool) (m : ℕ) (e : ℤ) (held : T (fits binary32 (fin s m e))) where
@@ -86,14 +97,23 @@ module _ (s : Bool) (m : ℕ) (e : ℤ) (held : T (fits binary32 (fin s m e))) w
       ∙ ap₂ (λ (a b : ℕ). a / b) exact (mul-comm (2 ^ 149) (down e))
       ∙ mul-div-mul-right (m * up e) (down e) (pow-pos 149)
 
-  -- it is on the map where it has no sign and m * 2 ^ e is below the side
-  pub map-exact : (side : ℕ) → onMap side (fin s m e) ≡ (not s && ltb (m * up e) (side * down e))
+  -- it is on the map where its value is at least 0, so that it has no sign or is 0, and m * 2 ^ e is below the side
+  pub map-exact : (side : ℕ) → onMap side (fin s m e) ≡ ((not s || eqb (m * up e) 0) && ltb (m * up e) (side * down e))
   unfolding onMap inRange isNan
   map-exact side =
       let bits = toBits binary32 (fin s m e) in
-      rw (lt-ltb _ _ (fields .1), not-le bits (2 ^ 31) s (sym (fields .0)), scaled (whole bits) (2 ^ 149) (m * up e) (down e) side (pow-pos 149) (down-pos e) exact)
+      rw (lt-ltb _ _ (fields .1), not-le bits (2 ^ 31) s (sym (fields .0)), zero-alike (whole bits) (2 ^ 149) (m * up e) (down e) (pow-pos 149) (down-pos e) exact, scaled (whole bits) (2 ^ 149) (m * up e) (down e) side (pow-pos 149) (down-pos e) exact)
 
 -- no NaN is on the map
 pub nan-off : (side : ℕ) → onMap side nan ≡ false
 unfolding onMap isNan
 nan-off side = refl
+
+-- minus zero is 0: it is on every map that has a cell, in cell 0; the least number below it is on none
+pub minus-zero : (side : ℕ) → 0 < side → (onMap side (ofBits binary32 2147483648) ≡ true) × (cellOf (ofBits binary32 2147483648) ≡ 0)
+unfolding onMap inRange whole cellOf ofBits toBits isNan
+minus-zero side h = (lt-ltb 0 (side * 2 ^ 149) (mul-pos h (pow-pos 149)), refl)
+
+pub below-zero : (side : ℕ) → onMap side (ofBits binary32 2147483649) ≡ false
+unfolding onMap inRange whole ofBits toBits isNan
+below-zero side = refl

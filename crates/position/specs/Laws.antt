@@ -1,11 +1,11 @@
 -- The laws that callers go by: none says what being on the map means, or what a cell is. Assumes nothing.
 use Prim.Native.Nat.{ℕ, _*_, _^_, _<_}
 use mathlib.Core.Path.{_≡_, refl}
-use mathlib.Core.Bool.{Bool, true, false, not, _&&_, cond}
+use mathlib.Core.Bool.{Bool, true, false, not, _&&_, _||_, cond}
 use native.Mathlib.Nat.{div-lt-iff-lt-mul}
 use native.Mathlib.Omega.{arith}
 use lib.Pow.{pow-pos}
-use lib.Dec.{ltb}
+use lib.Dec.{ltb, eqb}
 use lib.Ieee.{Float, binary32, toBits, isNan}
 use borrow.Author.Tests.{ltb-true}
 use Rattle.order.specs.TestLaws.{and→}
@@ -24,7 +24,7 @@ cell-below : (side : ℕ) (x : Float) → onMap side x ≡ true → cellOf x < s
 unfolding onMap inRange cellOf
 cell-below side x h =
     let bits = toBits binary32 x in
-    let n = and→ (ltb (exponent bits) 255 && ltb bits (2 ^ 31)) (ltb (whole bits) (side * 2 ^ 149)) (and→ (not (isNan x)) (inRange side bits) h .1) .1 in
+    let n = and→ (ltb (exponent bits) 255 && (ltb bits (2 ^ 31) || eqb (whole bits) 0)) (ltb (whole bits) (side * 2 ^ 149)) (and→ (not (isNan x)) (inRange side bits) h .1) .1 in
     div-lt-iff-lt-mul (pow-pos 149) .1 (ltb-true (whole bits) (side * 2 ^ 149) n)
 
 pub coordinate-below : (side : ℕ) (x : Float) (cell : ℕ) → coordinateOn side x ≡ Coordinate.Cell cell → cell < side

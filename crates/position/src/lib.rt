@@ -68,10 +68,22 @@ fn cell_of_bits(bits: u32, side: u32) -> Coordinate
     requires { ⌜ side ≤ 256 ⌝ }
     ensures { λ r. ⌜ r ≡ cond (inRange side bits) (Coordinate.Cell (whole bits / 2 ^ 149)) Coordinate.Off ⌝ }
 {
-    // at least 256, an infinity, or the sign bit set
+    // minus zero is zero
+    if bits == 0x8000_0000 {
+        return cell_below(0, side);
+    }
+    // at least 256, an infinity, or below 0
     if 0x4380_0000 <= bits {
         return Coordinate::Off;
     }
+    cell_below(bits, side)
+}
+
+// The cell of the number with these bits, which is below 256, its sign bit clear.
+fn cell_below(bits: u32, side: u32) -> Coordinate
+    requires { ⌜ bits < 135 * 2 ^ 23 ⌝ }
+    ensures { λ r. ⌜ r ≡ cond (inRange side bits) (Coordinate.Cell (whole bits / 2 ^ 149)) Coordinate.Off ⌝ }
+{
     let cell = floor(bits);
     if cell < side {
         Coordinate::Cell(cell)

@@ -1,27 +1,25 @@
--- `cell_of_bits` decides `inRange` by each test that it makes.
+-- `cell_of_bits` takes minus zero for zero, and puts what is below 0 or past every side off the map.
+use mathlib.Core.Path.{sym, _∙_}
 use native.Mathlib.Omega.{arith}
 use borrow.Author.Needs.{needs}
-use Rattle.position.proofs.Sides.{far, cell-beyond, cell-inRange}
+use Rattle.position.proofs.Sides.{far, minus-zero-cell}
 use Rattle.position.proofs.cell_of_bits.Statement.{statement}
 use Rattle.position.proofs.cell_of_bits.Tie as tie
 
-returns : tie.Need-returns
-returns c = rw (far (c .before .args .side) (c .before .args .bits) (c .before .pre) (omega arith))
+cell-below-requires : tie.Need-cell-below-requires
+cell-below-requires c κs = search needs
 
-floor-requires : tie.Need-floor-requires
-floor-requires c κs = search needs
+returns : tie.Need-returns
+returns c = let at = c .before .before .args in c .cell-below .ensures ∙ minus-zero-cell (at .side) (at .bits) (c .before .if1 .taken)
 
 returns-2 : tie.Need-returns-2
-returns-2 c =
-    let at = c .before .before .before .args in
-    let cell = c .before .floor in
-    rw (cell-inRange (at .side) (at .bits) (cell .result) (c .before .before .if1 .left) (cell .ensures) (c .if2 .taken), cell .ensures)
+returns-2 c = let at = c .before .before in rw (far (at .args .side) (at .args .bits) (at .pre) (omega arith) (c .before .if1 .left) (omega arith))
+
+cell-below-requires-2 : tie.Need-cell-below-requires-2
+cell-below-requires-2 c κs = search needs
 
 returns-3 : tie.Need-returns-3
-returns-3 c =
-    let at = c .before .before .before .args in
-    let cell = c .before .floor in
-    rw (cell-beyond (at .side) (at .bits) (cell .result) (cell .ensures) (c .if2 .left))
+returns-3 c = search needs
 
 pub cell-of-bits-spec : {M : Type 1} → statement M
-cell-of-bits-spec = tie.close (tie.spec returns floor-requires returns-2 returns-3)
+cell-of-bits-spec = tie.close (tie.spec cell-below-requires returns returns-2 cell-below-requires-2 returns-3)

@@ -80,7 +80,8 @@ pub fn cut(s: Shape, r: Rectangle) -> Vec<u32> {
 /// The cell of a coordinate by its bits, none where it is not on the map. The value is n / 2^149 in whole numbers.
 pub fn coordinate(bits: u32, side: u32) -> Option<u32> {
     let (sign, e, f) = (bits >> 31, bits >> 23 & 255, bits & 0x7F_FFFF);
-    if sign == 1 || e == 255 {
+    let zero = e == 0 && f == 0;
+    if sign == 1 && !zero || e == 255 {
         return None;
     }
     let (n, doubled) = if e == 0 { (f as u64, 0) } else { (0x80_0000 + f as u64, e - 1) };

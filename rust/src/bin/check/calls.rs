@@ -223,6 +223,9 @@ pub fn rectangle(random: &mut Random, s: Shape) -> Rectangle {
 fn within(random: &mut Random, cell: u32) -> u32 {
     let first = (cell as f32).to_bits();
     let last = ((cell + 1) as f32).to_bits() - 1;
+    if cell == 0 && random.once_in(4) {
+        return 0x8000_0000;
+    }
     match random.below(4) {
         0 => first,
         1 => last,
@@ -255,7 +258,7 @@ fn odd(random: &mut Random, side: u32) -> u32 {
         0 => end,
         1 => end - 1,
         2 => end + 1,
-        3 => 0x8000_0000,
+        3 => 0x8000_0001,
         4 => 0x8000_0000 | within(random, 0),
         5 => random.pick(&[0x7F80_0000, 0xFF80_0000]),
         6..=7 => nan(random),
