@@ -379,8 +379,15 @@ mod tests {
 
     #[test]
     fn the_cell_of_a_float() {
-        let cases = [(0x3F7F_FFFF, Some(0)), (1, Some(0)), (0x3F80_0000, Some(1)), (0x437F_FFFF, Some(255))];
-        for (bits, cell) in cases.into_iter().chain([(0x4380_0000, None), (0x8000_0000, None), (0x7F80_0000, None)]) {
+        let on = [
+            (0x3F7F_FFFF, Some(0)),
+            (1, Some(0)),
+            (0x8000_0000, Some(0)),
+            (0x3F80_0000, Some(1)),
+            (0x437F_FFFF, Some(255)),
+        ];
+        let off = [0x4380_0000, 0x8000_0001, 0xBF80_0000, 0x7F80_0000].map(|bits| (bits, None));
+        for (bits, cell) in on.into_iter().chain(off) {
             assert_eq!(coordinate(bits, 256), cell);
         }
         for bits in (0..0x4400_0000).step_by(997) {
