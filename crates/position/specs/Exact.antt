@@ -104,10 +104,15 @@ module _ (s : Bool) (m : ℕ) (e : ℤ) (held : T (fits binary32 (fin s m e))) w
       let bits = toBits binary32 (fin s m e) in
       rw (lt-ltb _ _ (fields .1), not-le bits (2 ^ 31) s (sym (fields .0)), zero-alike (whole bits) (2 ^ 149) (m * up e) (down e) (pow-pos 149) (down-pos e) exact, scaled (whole bits) (2 ^ 149) (m * up e) (down e) side (pow-pos 149) (down-pos e) exact)
 
--- no NaN is on the map
+-- what has no value is not on the map: a NaN, an infinity
 pub nan-off : (side : ℕ) → onMap side nan ≡ false
 unfolding onMap isNan
 nan-off side = refl
+
+pub inf-off : (s : Bool) (side : ℕ) → onMap side (inf s) ≡ false
+unfolding onMap inRange isNan toBits
+inf-off true side = refl
+inf-off false side = refl
 
 -- minus zero is 0: it is on every map that has a cell, in cell 0; the least number below it is on none
 pub minus-zero : (side : ℕ) → 0 < side → (onMap side (ofBits binary32 2147483648) ≡ true) × (cellOf (ofBits binary32 2147483648) ≡ 0)
