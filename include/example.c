@@ -3,25 +3,40 @@
 #include "unwadegiro.h"
 
 #include <stdio.h>
+#include <stdlib.h>
 
-/* Room for k = 2, P = Q = 4, 16 zones, 64 cars, 2,048 entries: unwadegiro_lengths gives these numbers. */
-static uint32_t head[6], zones[64], cars[64], starts[337], entries[2048];
-static float spots[128];
-static uint8_t rosters[1024];
+/* k = 2, P = Q = 4; room for 16 zones, 64 cars, 2,048 entries. */
+#define SHAPE_AND_ROOM 2, 4, 4, 16, 64, 2048
 
-#define TABLES head, 6, zones, 64, cars, 64, spots, 128, starts, 337, entries, 2048, rosters, 1024
-
-int main(void)
+static int play(unwadegiro_town *town)
 {
     uint32_t entered[16], left[16], values[3];
 
-    if (unwadegiro_open(TABLES, 2, 4, 4, 16, 64, 2048) != UNWADEGIRO_DONE)
-        return 1;
-    if (unwadegiro_add(TABLES, 1, 5, 2, 8, 12, values, 3) != UNWADEGIRO_DONE)
+    if (unwadegiro_town_add(town, 1, 5, 2, 8, 12, values, 3) != UNWADEGIRO_DONE)
         return 1;
     printf("zone 1 has %u squares, and %u cars are inside\n", (unsigned)values[0], (unsigned)values[1]);
-    if (unwadegiro_report(TABLES, 7, 5.5f, 3.0f, entered, 16, left, 16, values, 3) != UNWADEGIRO_DONE)
+    if (unwadegiro_town_report(town, 7, 5.5f, 3.0f, entered, 16, left, 16, values, 3) != UNWADEGIRO_DONE)
         return 1;
     printf("car 7 entered %u zone, the first is %u\n", (unsigned)values[1], (unsigned)entered[0]);
+    if (unwadegiro_town_count(town, 1, values, 1) != UNWADEGIRO_DONE)
+        return 1;
+    printf("zone 1 counts %u car\n", (unsigned)values[0]);
     return 0;
+}
+
+int main(void)
+{
+    unwadegiro_town town;
+    void *block;
+    int failed;
+
+    if (unwadegiro_town_lengths(&town, SHAPE_AND_ROOM) != UNWADEGIRO_DONE)
+        return 1;
+    block = malloc(unwadegiro_town_bytes(&town));
+    if (block == NULL)
+        return 1;
+    unwadegiro_town_place(&town, block);
+    failed = unwadegiro_town_open(&town, SHAPE_AND_ROOM) != UNWADEGIRO_DONE || play(&town);
+    free(block);
+    return failed;
 }

@@ -1,7 +1,7 @@
 /*
  * unwadegiro: zones, cars and rosters of a town, over tables that the caller lends.
  *
- * Ownership. The caller owns all memory. A call allocates nothing, keeps no pointer and no state: a town is its seven
+ * Ownership. The caller owns all memory. A call allocates nothing, keeps no pointer and no state: a town is its eight
  * tables and nothing else. The calls may be made from any thread, as long as nobody else uses what a call was lent while
  * it runs, other calls that only read the same tables apart.
  *
@@ -9,7 +9,7 @@
  * for the whole length; where the length is 0 it is not read and may be anything. The slices of one call must not
  * overlap each other: not the tables, not the buffers, not `values`.
  *
- * Tables. Shape and capacities fix the length of each of the seven (unwadegiro_lengths gives them). unwadegiro_open
+ * Tables. Shape and capacities fix the length of each of the eight (unwadegiro_lengths gives them). unwadegiro_open
  * writes them; from then on they are lent together, in this order, as that town's tables and as nothing else:
  *
  *   head     uint32_t   shape and capacities
@@ -19,8 +19,12 @@
  *   starts   uint32_t   where each square's list starts
  *   entries  uint32_t   the lists of zones
  *   rosters  uint8_t    which car is in which zone
+ *   tallies  uint32_t   how many cars are in each zone
  *
  * docs/LAYOUT.md says what stands in them. A table that a call does not change is lent as const.
+ *
+ * C and C++. The struct unwadegiro_town, at the end of this header, holds the tables of a town. Each call that is lent
+ * tables has an inline function over it, so a caller names no table, and changes nothing when there is one more.
  *
  * Answers. Every call returns 0, or the number of the refusal (below). What it answers besides goes into `values`, from
  * its front, as far as it goes: a slice that is longer keeps the rest, one that is shorter gets the first values alone. On
@@ -121,7 +125,7 @@ extern "C" {
 /*
  * The lengths of the tables for a shape (k, P, Q) and capacities. Shape: k at most 5, P and Q at least 1, W and H at most
  * 256. Capacities: zones 1 to 256, cars 1 to 1,024, entries 1 to 16,384.
- * Values, 7: the lengths of head, zones, cars, spots, starts, entries, rosters.
+ * Values, 8: the lengths of head, zones, cars, spots, starts, entries, rosters, tallies.
  * Refusals: 1, 2.
  */
 uint32_t unwadegiro_lengths(uint32_t k, uint32_t P, uint32_t Q, uint32_t zones, uint32_t cars, uint32_t entries,
@@ -133,20 +137,21 @@ uint32_t unwadegiro_lengths(uint32_t k, uint32_t P, uint32_t Q, uint32_t zones, 
  */
 uint32_t unwadegiro_open(uint32_t *head, size_t head_len, uint32_t *zones, size_t zones_len, uint32_t *cars,
                          size_t cars_len, float *spots, size_t spots_len, uint32_t *starts, size_t starts_len,
-                         uint32_t *entries, size_t entries_len, uint8_t *rosters, size_t rosters_len, uint32_t k,
-                         uint32_t P, uint32_t Q, uint32_t zone_capacity, uint32_t car_capacity,
-                         uint32_t entry_capacity);
+                         uint32_t *entries, size_t entries_len, uint8_t *rosters, size_t rosters_len,
+                         uint32_t *tallies, size_t tallies_len, uint32_t k, uint32_t P, uint32_t Q,
+                         uint32_t zone_capacity, uint32_t car_capacity, uint32_t entry_capacity);
 
 /*
  * Adds a zone: its number and its rectangle, the cells with a <= x < a + w and b <= y < b + h. Cars that stand in it are
- * on its roster at once.
+ * on its roster, and counted, at once.
  * Values, 2: how many squares its cut has; how many cars are inside.
  * Refusals: 3, 4, 6, 9, 12.
  */
 uint32_t unwadegiro_add(const uint32_t *head, size_t head_len, uint32_t *zones, size_t zones_len, const uint32_t *cars,
                         size_t cars_len, const float *spots, size_t spots_len, uint32_t *starts, size_t starts_len,
-                        uint32_t *entries, size_t entries_len, uint8_t *rosters, size_t rosters_len, uint32_t zone,
-                        uint32_t a, uint32_t b, uint32_t w, uint32_t h, uint32_t *values, size_t values_len);
+                        uint32_t *entries, size_t entries_len, uint8_t *rosters, size_t rosters_len, uint32_t *tallies,
+                        size_t tallies_len, uint32_t zone, uint32_t a, uint32_t b, uint32_t w, uint32_t h,
+                        uint32_t *values, size_t values_len);
 
 /*
  * Removes a zone. Its entries and its number are free for later zones.
@@ -155,7 +160,7 @@ uint32_t unwadegiro_add(const uint32_t *head, size_t head_len, uint32_t *zones, 
 uint32_t unwadegiro_remove(const uint32_t *head, size_t head_len, uint32_t *zones, size_t zones_len,
                            const uint32_t *cars, size_t cars_len, const float *spots, size_t spots_len,
                            uint32_t *starts, size_t starts_len, uint32_t *entries, size_t entries_len,
-                           uint8_t *rosters, size_t rosters_len, uint32_t zone);
+                           uint8_t *rosters, size_t rosters_len, uint32_t *tallies, size_t tallies_len, uint32_t zone);
 
 /*
  * Places a car on the map, or moves it. A position is on the map where 0 <= x < W and 0 <= y < H, -0.0f too;
@@ -168,8 +173,9 @@ uint32_t unwadegiro_remove(const uint32_t *head, size_t head_len, uint32_t *zone
 uint32_t unwadegiro_report(const uint32_t *head, size_t head_len, const uint32_t *zones, size_t zones_len,
                            uint32_t *cars, size_t cars_len, float *spots, size_t spots_len, const uint32_t *starts,
                            size_t starts_len, const uint32_t *entries, size_t entries_len, uint8_t *rosters,
-                           size_t rosters_len, uint32_t car, float x, float y, uint32_t *entered, size_t entered_len,
-                           uint32_t *left, size_t left_len, uint32_t *values, size_t values_len);
+                           size_t rosters_len, uint32_t *tallies, size_t tallies_len, uint32_t car, float x, float y,
+                           uint32_t *entered, size_t entered_len, uint32_t *left, size_t left_len, uint32_t *values,
+                           size_t values_len);
 
 /*
  * Takes a car off the map. `left` gets the zones that it was in; it must have room for the zone capacity.
@@ -179,8 +185,8 @@ uint32_t unwadegiro_report(const uint32_t *head, size_t head_len, const uint32_t
 uint32_t unwadegiro_leave(const uint32_t *head, size_t head_len, const uint32_t *zones, size_t zones_len,
                           uint32_t *cars, size_t cars_len, const float *spots, size_t spots_len,
                           const uint32_t *starts, size_t starts_len, const uint32_t *entries, size_t entries_len,
-                          uint8_t *rosters, size_t rosters_len, uint32_t car, uint32_t *left, size_t left_len,
-                          uint32_t *values, size_t values_len);
+                          uint8_t *rosters, size_t rosters_len, uint32_t *tallies, size_t tallies_len, uint32_t car,
+                          uint32_t *left, size_t left_len, uint32_t *values, size_t values_len);
 
 /*
  * The zones that hold a position, into `found`, which must have room for the zone capacity.
@@ -190,8 +196,8 @@ uint32_t unwadegiro_leave(const uint32_t *head, size_t head_len, const uint32_t 
 uint32_t unwadegiro_search(const uint32_t *head, size_t head_len, const uint32_t *zones, size_t zones_len,
                            const uint32_t *cars, size_t cars_len, const float *spots, size_t spots_len,
                            const uint32_t *starts, size_t starts_len, const uint32_t *entries, size_t entries_len,
-                           const uint8_t *rosters, size_t rosters_len, float x, float y, uint32_t *found,
-                           size_t found_len, uint32_t *values, size_t values_len);
+                           const uint8_t *rosters, size_t rosters_len, const uint32_t *tallies, size_t tallies_len,
+                           float x, float y, uint32_t *found, size_t found_len, uint32_t *values, size_t values_len);
 
 /*
  * The cars in a zone, into `inside`, which must have room for the car capacity.
@@ -201,8 +207,20 @@ uint32_t unwadegiro_search(const uint32_t *head, size_t head_len, const uint32_t
 uint32_t unwadegiro_roster(const uint32_t *head, size_t head_len, const uint32_t *zones, size_t zones_len,
                            const uint32_t *cars, size_t cars_len, const float *spots, size_t spots_len,
                            const uint32_t *starts, size_t starts_len, const uint32_t *entries, size_t entries_len,
-                           const uint8_t *rosters, size_t rosters_len, uint32_t zone, uint32_t *inside,
-                           size_t inside_len, uint32_t *values, size_t values_len);
+                           const uint8_t *rosters, size_t rosters_len, const uint32_t *tallies, size_t tallies_len,
+                           uint32_t zone, uint32_t *inside, size_t inside_len, uint32_t *values, size_t values_len);
+
+/*
+ * How many cars are in a zone: as many as unwadegiro_roster lists. The number is read as it stands in tallies, so the call
+ * costs the same however many cars there are. On tables that are not sound it may be any number.
+ * Values, 1: how many cars are in the zone.
+ * Refusals: 3, 4, 7.
+ */
+uint32_t unwadegiro_count(const uint32_t *head, size_t head_len, const uint32_t *zones, size_t zones_len,
+                          const uint32_t *cars, size_t cars_len, const float *spots, size_t spots_len,
+                          const uint32_t *starts, size_t starts_len, const uint32_t *entries, size_t entries_len,
+                          const uint8_t *rosters, size_t rosters_len, const uint32_t *tallies, size_t tallies_len,
+                          uint32_t zone, uint32_t *values, size_t values_len);
 
 /*
  * Where a car is. `position` gets x and y, as far as it goes: the bits that its last accepted report gave. On a refusal
@@ -213,18 +231,20 @@ uint32_t unwadegiro_roster(const uint32_t *head, size_t head_len, const uint32_t
 uint32_t unwadegiro_where(const uint32_t *head, size_t head_len, const uint32_t *zones, size_t zones_len,
                           const uint32_t *cars, size_t cars_len, const float *spots, size_t spots_len,
                           const uint32_t *starts, size_t starts_len, const uint32_t *entries, size_t entries_len,
-                          const uint8_t *rosters, size_t rosters_len, uint32_t car, float *position,
-                          size_t position_len);
+                          const uint8_t *rosters, size_t rosters_len, const uint32_t *tallies, size_t tallies_len,
+                          uint32_t car, float *position, size_t position_len);
 
 /*
- * Whether the tables are sound: each zone and each position allowed, lists and rosters what zones and positions give.
+ * Whether the tables are sound: each zone and each position allowed, lists, rosters and tallies what zones and positions
+ * give.
  * Values, 1: 1 for yes, 0 for no.
  * Refusals: 3.
  */
 uint32_t unwadegiro_sound(const uint32_t *head, size_t head_len, const uint32_t *zones, size_t zones_len,
                           const uint32_t *cars, size_t cars_len, const float *spots, size_t spots_len,
                           const uint32_t *starts, size_t starts_len, const uint32_t *entries, size_t entries_len,
-                          const uint8_t *rosters, size_t rosters_len, uint32_t *values, size_t values_len);
+                          const uint8_t *rosters, size_t rosters_len, const uint32_t *tallies, size_t tallies_len,
+                          uint32_t *values, size_t values_len);
 
 /*
  * The number of the square of a level with its southwest corner at (x, y).
@@ -254,7 +274,7 @@ uint32_t unwadegiro_cut(uint32_t k, uint32_t P, uint32_t Q, uint32_t a, uint32_t
 /*
  * The log. unwadegiro_log answers a piece of a log, which is cut anywhere, and unwadegiro_log_end its end: docs/LOG.md has
  * the records and the answers. The log's town has room for 64 by 64 cells, 16 zones, 64 cars and 2,048 entries; an M opens
- * it anew. What a log has, between calls, is the seven tables, of these lengths whatever the shape, and `held`: 82 bytes,
+ * it anew. What a log has, between calls, is the eight tables, of these lengths whatever the shape, and `held`: 82 bytes,
  * the last of which says how many of the others are the beginning of a line that has not ended. All are 0 at the start.
  *
  * Lines are answered into `out` as long as UNWADEGIRO_LOG_OUT bytes of it are free, which every answer fits; then no more
@@ -268,7 +288,7 @@ uint32_t unwadegiro_cut(uint32_t k, uint32_t P, uint32_t Q, uint32_t a, uint32_t
  * than UNWADEGIRO_LOG_OUT. A record's own refusal stands in its answer.
  *
  * Between two calls the town may be looked at with the other calls. They want `starts` as long as the shape asks
- * (unwadegiro_lengths): lend the first of the log's.
+ * (unwadegiro_lengths): lend the first of the log's, as unwadegiro_town_of_log does.
  */
 #define UNWADEGIRO_LOG_HEAD 6u
 #define UNWADEGIRO_LOG_ZONES 64u
@@ -277,14 +297,15 @@ uint32_t unwadegiro_cut(uint32_t k, uint32_t P, uint32_t Q, uint32_t a, uint32_t
 #define UNWADEGIRO_LOG_STARTS 5462u
 #define UNWADEGIRO_LOG_ENTRIES 2048u
 #define UNWADEGIRO_LOG_ROSTERS 1024u
+#define UNWADEGIRO_LOG_TALLIES 16u
 #define UNWADEGIRO_LOG_HELD 82u
 #define UNWADEGIRO_LOG_OUT 768u
 
 uint32_t unwadegiro_log(uint32_t *head, size_t head_len, uint32_t *zones, size_t zones_len, uint32_t *cars,
                         size_t cars_len, float *spots, size_t spots_len, uint32_t *starts, size_t starts_len,
-                        uint32_t *entries, size_t entries_len, uint8_t *rosters, size_t rosters_len,
-                        const uint8_t *piece, size_t piece_len, uint8_t *held, size_t held_len, uint8_t *out,
-                        size_t out_len, size_t *values, size_t values_len);
+                        uint32_t *entries, size_t entries_len, uint8_t *rosters, size_t rosters_len, uint32_t *tallies,
+                        size_t tallies_len, const uint8_t *piece, size_t piece_len, uint8_t *held, size_t held_len,
+                        uint8_t *out, size_t out_len, size_t *values, size_t values_len);
 
 /*
  * The log's end: what is held is its last line, without a feed, and is answered; where nothing is held, nothing is
@@ -295,8 +316,213 @@ uint32_t unwadegiro_log(uint32_t *head, size_t head_len, uint32_t *zones, size_t
 uint32_t unwadegiro_log_end(uint32_t *head, size_t head_len, uint32_t *zones, size_t zones_len, uint32_t *cars,
                             size_t cars_len, float *spots, size_t spots_len, uint32_t *starts, size_t starts_len,
                             uint32_t *entries, size_t entries_len, uint8_t *rosters, size_t rosters_len,
-                            uint8_t *held, size_t held_len, uint8_t *out, size_t out_len, size_t *values,
-                            size_t values_len);
+                            uint32_t *tallies, size_t tallies_len, uint8_t *held, size_t held_len, uint8_t *out,
+                            size_t out_len, size_t *values, size_t values_len);
+
+/*
+ * The tables of a town, with their lengths. Nothing of what follows is in the archive: it is compiled with the caller. A
+ * town is made in four steps, of which all but the third may fail (example.c):
+ *
+ *   unwadegiro_town_lengths(&town, 2, 4, 4, 16, 64, 2048);    the lengths, by shape and capacities
+ *   block = malloc(unwadegiro_town_bytes(&town));             memory for all tables
+ *   unwadegiro_town_place(&town, block);                      the tables laid into it
+ *   unwadegiro_town_open(&town, 2, 4, 4, 16, 64, 2048);       an empty town
+ *
+ * A caller that has memory for each table sets the pointers in place of the second and the third, and so names the tables.
+ *
+ * The struct only points: a copy of it is the same town. A copy of the block, with a struct of the same lengths placed on
+ * it, is another town that is just as the first one was.
+ */
+typedef struct unwadegiro_town {
+    uint32_t *head;
+    size_t head_len;
+    uint32_t *zones;
+    size_t zones_len;
+    uint32_t *cars;
+    size_t cars_len;
+    float *spots;
+    size_t spots_len;
+    uint32_t *starts;
+    size_t starts_len;
+    uint32_t *entries;
+    size_t entries_len;
+    uint8_t *rosters;
+    size_t rosters_len;
+    uint32_t *tallies;
+    size_t tallies_len;
+} unwadegiro_town;
+
+/* The tables as the calls are lent them. */
+#define UNWADEGIRO_LENT(town)                                                                                          \
+    (town)->head, (town)->head_len, (town)->zones, (town)->zones_len, (town)->cars, (town)->cars_len, (town)->spots,   \
+        (town)->spots_len, (town)->starts, (town)->starts_len, (town)->entries, (town)->entries_len, (town)->rosters,  \
+        (town)->rosters_len, (town)->tallies, (town)->tallies_len
+
+/* Sets the lengths, in the order of unwadegiro_lengths, and each pointer to null. */
+static inline void unwadegiro_town_set(unwadegiro_town *town, const uint32_t lengths[8])
+{
+    town->head = NULL;
+    town->head_len = lengths[0];
+    town->zones = NULL;
+    town->zones_len = lengths[1];
+    town->cars = NULL;
+    town->cars_len = lengths[2];
+    town->spots = NULL;
+    town->spots_len = lengths[3];
+    town->starts = NULL;
+    town->starts_len = lengths[4];
+    town->entries = NULL;
+    town->entries_len = lengths[5];
+    town->rosters = NULL;
+    town->rosters_len = lengths[6];
+    town->tallies = NULL;
+    town->tallies_len = lengths[7];
+}
+
+/*
+ * Sets the lengths for a shape and capacities, and each pointer to null.
+ * Refusals: 1, 2; the lengths are 0 then.
+ */
+static inline uint32_t unwadegiro_town_lengths(unwadegiro_town *town, uint32_t k, uint32_t P, uint32_t Q,
+                                               uint32_t zone_capacity, uint32_t car_capacity, uint32_t entry_capacity)
+{
+    uint32_t lengths[8];
+    uint32_t refusal = unwadegiro_lengths(k, P, Q, zone_capacity, car_capacity, entry_capacity, lengths, 8);
+
+    unwadegiro_town_set(town, lengths);
+    return refusal;
+}
+
+/* How many bytes the tables take, by their lengths. */
+static inline size_t unwadegiro_town_bytes(const unwadegiro_town *town)
+{
+    size_t words = town->head_len + town->zones_len + town->cars_len + town->starts_len + town->entries_len +
+                   town->tallies_len;
+
+    return words * sizeof(uint32_t) + town->spots_len * sizeof(float) + town->rosters_len;
+}
+
+/*
+ * Lays the tables into a block of memory, one behind the other. The block has unwadegiro_town_bytes bytes and is aligned
+ * for uint32_t and for float, as what malloc gives is. What lies in it stays: unwadegiro_town_open writes every byte.
+ */
+static inline void unwadegiro_town_place(unwadegiro_town *town, void *block)
+{
+    town->head = (uint32_t *)block;
+    town->zones = town->head + town->head_len;
+    town->cars = town->zones + town->zones_len;
+    town->starts = town->cars + town->cars_len;
+    town->entries = town->starts + town->starts_len;
+    town->tallies = town->entries + town->entries_len;
+    town->spots = (float *)(void *)(town->tallies + town->tallies_len);
+    town->rosters = (uint8_t *)(town->spots + town->spots_len);
+}
+
+/* The calls: each is the call of its name above, with the same arguments behind the tables, values and refusals. */
+
+static inline uint32_t unwadegiro_town_open(unwadegiro_town *town, uint32_t k, uint32_t P, uint32_t Q,
+                                            uint32_t zone_capacity, uint32_t car_capacity, uint32_t entry_capacity)
+{
+    return unwadegiro_open(UNWADEGIRO_LENT(town), k, P, Q, zone_capacity, car_capacity, entry_capacity);
+}
+
+static inline uint32_t unwadegiro_town_add(unwadegiro_town *town, uint32_t zone, uint32_t a, uint32_t b, uint32_t w,
+                                           uint32_t h, uint32_t *values, size_t values_len)
+{
+    return unwadegiro_add(UNWADEGIRO_LENT(town), zone, a, b, w, h, values, values_len);
+}
+
+static inline uint32_t unwadegiro_town_remove(unwadegiro_town *town, uint32_t zone)
+{
+    return unwadegiro_remove(UNWADEGIRO_LENT(town), zone);
+}
+
+static inline uint32_t unwadegiro_town_report(unwadegiro_town *town, uint32_t car, float x, float y, uint32_t *entered,
+                                              size_t entered_len, uint32_t *left, size_t left_len, uint32_t *values,
+                                              size_t values_len)
+{
+    return unwadegiro_report(UNWADEGIRO_LENT(town), car, x, y, entered, entered_len, left, left_len, values,
+                             values_len);
+}
+
+static inline uint32_t unwadegiro_town_leave(unwadegiro_town *town, uint32_t car, uint32_t *left, size_t left_len,
+                                             uint32_t *values, size_t values_len)
+{
+    return unwadegiro_leave(UNWADEGIRO_LENT(town), car, left, left_len, values, values_len);
+}
+
+static inline uint32_t unwadegiro_town_search(const unwadegiro_town *town, float x, float y, uint32_t *found,
+                                              size_t found_len, uint32_t *values, size_t values_len)
+{
+    return unwadegiro_search(UNWADEGIRO_LENT(town), x, y, found, found_len, values, values_len);
+}
+
+static inline uint32_t unwadegiro_town_roster(const unwadegiro_town *town, uint32_t zone, uint32_t *inside,
+                                              size_t inside_len, uint32_t *values, size_t values_len)
+{
+    return unwadegiro_roster(UNWADEGIRO_LENT(town), zone, inside, inside_len, values, values_len);
+}
+
+static inline uint32_t unwadegiro_town_count(const unwadegiro_town *town, uint32_t zone, uint32_t *values,
+                                             size_t values_len)
+{
+    return unwadegiro_count(UNWADEGIRO_LENT(town), zone, values, values_len);
+}
+
+static inline uint32_t unwadegiro_town_where(const unwadegiro_town *town, uint32_t car, float *position,
+                                             size_t position_len)
+{
+    return unwadegiro_where(UNWADEGIRO_LENT(town), car, position, position_len);
+}
+
+static inline uint32_t unwadegiro_town_sound(const unwadegiro_town *town, uint32_t *values, size_t values_len)
+{
+    return unwadegiro_sound(UNWADEGIRO_LENT(town), values, values_len);
+}
+
+/* Sets the lengths of a log's tables, and each pointer to null. Its block is all 0 at the start, as calloc gives it. */
+static inline void unwadegiro_town_log_lengths(unwadegiro_town *log)
+{
+    static const uint32_t lengths[8] = {UNWADEGIRO_LOG_HEAD,    UNWADEGIRO_LOG_ZONES,  UNWADEGIRO_LOG_CARS,
+                                        UNWADEGIRO_LOG_SPOTS,   UNWADEGIRO_LOG_STARTS, UNWADEGIRO_LOG_ENTRIES,
+                                        UNWADEGIRO_LOG_ROSTERS, UNWADEGIRO_LOG_TALLIES};
+
+    unwadegiro_town_set(log, lengths);
+}
+
+static inline uint32_t unwadegiro_town_log(unwadegiro_town *log, const uint8_t *piece, size_t piece_len, uint8_t *held,
+                                           size_t held_len, uint8_t *out, size_t out_len, size_t *values,
+                                           size_t values_len)
+{
+    return unwadegiro_log(UNWADEGIRO_LENT(log), piece, piece_len, held, held_len, out, out_len, values, values_len);
+}
+
+static inline uint32_t unwadegiro_town_log_end(unwadegiro_town *log, uint8_t *held, size_t held_len, uint8_t *out,
+                                               size_t out_len, size_t *values, size_t values_len)
+{
+    return unwadegiro_log_end(UNWADEGIRO_LENT(log), held, held_len, out, out_len, values, values_len);
+}
+
+/*
+ * The town that is open in a log's tables, to look at between two calls. It shares them, and is out of date once a line
+ * has opened another.
+ * Refusals: 3 where no town is open.
+ */
+static inline uint32_t unwadegiro_town_of_log(unwadegiro_town *town, const unwadegiro_town *log)
+{
+    const uint32_t *head = log->head;
+    uint32_t lengths[8];
+
+    *town = *log;
+    if (log->head_len != UNWADEGIRO_LOG_HEAD ||
+        unwadegiro_lengths(head[0], head[1], head[2], head[3], head[4], head[5], lengths, 8) != UNWADEGIRO_DONE ||
+        lengths[4] > log->starts_len)
+        return UNWADEGIRO_BAD_TABLES;
+    town->starts_len = lengths[4];
+    return UNWADEGIRO_DONE;
+}
+
+#undef UNWADEGIRO_LENT
 
 #ifdef __cplusplus
 }

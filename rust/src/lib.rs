@@ -1,7 +1,7 @@
 //! Which car is in which scoring zone.
 //!
 //! A [`Town`] is a grid of cells with zones, which are rectangles of cells, and cars, which report where they are. It
-//! answers which zones a car entered and left, which zones hold a position, and which cars are in a zone.
+//! answers which zones a car entered and left, which zones hold a position, which cars are in a zone, and how many.
 //!
 //! The work is done by a library that is proved to do what its documents say; this crate owns the tables that it is lent
 //! and makes its calls safe. The archive to link is made by `./archive` at the root of the repository.

@@ -28,6 +28,7 @@ pub struct Log {
     starts: Vec<u32>,
     entries: Vec<u32>,
     rosters: Vec<u8>,
+    tallies: Vec<u32>,
     held: Vec<u8>,
     out: Vec<u8>,
 }
@@ -49,6 +50,7 @@ macro_rules! call {
                 $log.starts.as_mut_ptr(), $log.starts.len(),
                 $log.entries.as_mut_ptr(), $log.entries.len(),
                 $log.rosters.as_mut_ptr(), $log.rosters.len(),
+                $log.tallies.as_mut_ptr(), $log.tallies.len(),
                 $($rest,)*
                 $log.held.as_mut_ptr(), $log.held.len(),
                 $log.out.as_mut_ptr(), $log.out.len(),
@@ -77,6 +79,7 @@ impl Log {
             starts: vec![0; 5462],
             entries: vec![0; 2048],
             rosters: vec![0; 1024],
+            tallies: vec![0; 16],
             held: vec![0; 82],
             out: vec![0; ROOM],
         }

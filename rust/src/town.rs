@@ -72,6 +72,7 @@ pub struct Found<'a> {
 /// let came = town.report(7, Position { x: 5.5, y: 3.0 })?;
 /// assert_eq!((came.squares, came.entered, came.left), (3, &[1][..], &[][..]));
 /// assert_eq!(town.roster(1)?, [7]);
+/// assert_eq!(town.count(1)?, 1);
 ///
 /// let gone = town.leave(7)?;
 /// assert_eq!(gone.left, [1]);
@@ -87,6 +88,7 @@ pub struct Town {
     starts: Vec<u32>,
     entries: Vec<u32>,
     rosters: Vec<u8>,
+    tallies: Vec<u32>,
     // room for the lists that a call answers
     came: Vec<u32>,
     went: Vec<u32>,
@@ -116,7 +118,8 @@ macro_rules! read {
                 spots.as_ptr,
                 starts.as_ptr,
                 entries.as_ptr,
-                rosters.as_ptr
+                rosters.as_ptr,
+                tallies.as_ptr
             ]
             $(, $rest)*
         )
@@ -134,7 +137,7 @@ impl Town {
     pub fn open(shape: Shape, capacities: Capacities) -> Result<Town, Refusal> {
         let Shape { k, p, q } = shape;
         let Capacities { zones, cars, entries } = capacities;
-        let mut lengths = [0; 7];
+        let mut lengths = [0; 8];
         // SAFETY: `lengths` is valid for its length.
         Refusal::check(unsafe {
             raw::unwadegiro_lengths(k, p, q, zones, cars, entries, lengths.as_mut_ptr(), lengths.len())
@@ -148,6 +151,7 @@ impl Town {
             starts: vec![0; long[4]],
             entries: vec![0; long[5]],
             rosters: vec![0; long[6]],
+            tallies: vec![0; long[7]],
             came: vec![0; zones as usize],
             went: vec![0; zones as usize],
             inside: vec![0; cars as usize],
@@ -168,7 +172,8 @@ impl Town {
                 spots.as_mut_ptr,
                 starts.as_mut_ptr,
                 entries.as_mut_ptr,
-                rosters.as_mut_ptr
+                rosters.as_mut_ptr,
+                tallies.as_mut_ptr
             ],
             shape.k,
             shape.p,
@@ -195,8 +200,8 @@ impl Town {
         Capacities { zones: self.head[3], cars: self.head[4], entries: self.head[5] }
     }
 
-    /// Adds a zone. Cars that stand in it are on its roster at once. Refusals: [`Refusal::NoSuchZone`],
-    /// [`Refusal::ZoneStands`], [`Refusal::Rectangle`], [`Refusal::NoRoom`].
+    /// Adds a zone. Cars that stand in it are on its roster, and counted, at once. Refusals:
+    /// [`Refusal::NoSuchZone`], [`Refusal::ZoneStands`], [`Refusal::Rectangle`], [`Refusal::NoRoom`].
     pub fn add(&mut self, zone: u32, r: Rectangle) -> Result<Added, Refusal> {
         let mut values = [0; 2];
         call!(
@@ -209,7 +214,8 @@ impl Town {
                 spots.as_ptr,
                 starts.as_mut_ptr,
                 entries.as_mut_ptr,
-                rosters.as_mut_ptr
+                rosters.as_mut_ptr,
+                tallies.as_mut_ptr
             ],
             zone,
             r.a,
@@ -236,7 +242,8 @@ impl Town {
                 spots.as_ptr,
                 starts.as_mut_ptr,
                 entries.as_mut_ptr,
-                rosters.as_mut_ptr
+                rosters.as_mut_ptr,
+                tallies.as_mut_ptr
             ],
             zone
         )
@@ -266,7 +273,8 @@ impl Town {
                 spots.as_mut_ptr,
                 starts.as_ptr,
                 entries.as_ptr,
-                rosters.as_mut_ptr
+                rosters.as_mut_ptr,
+                tallies.as_mut_ptr
             ],
             car,
             at.x,
@@ -295,7 +303,8 @@ impl Town {
                 spots.as_ptr,
                 starts.as_ptr,
                 entries.as_ptr,
-                rosters.as_mut_ptr
+                rosters.as_mut_ptr,
+                tallies.as_mut_ptr
             ],
             car,
             self.went.as_mut_ptr(),
@@ -337,6 +346,29 @@ impl Town {
             values.len()
         )?;
         Ok(&self.inside[..values[0] as usize])
+    }
+
+    /// How many cars are in a zone: as many as [`Town::roster`] lists. The number is stored, so the call costs the same
+    /// however many cars there are. Refusals: [`Refusal::NoSuchZone`], [`Refusal::ZoneStandsNot`].
+    ///
+    /// ```
+    /// # use unwadegiro::{Capacities, Position, Rectangle, Refusal, Shape, Town};
+    /// # let room = Capacities { zones: 2, cars: 8, entries: 64 };
+    /// let mut town = Town::open(Shape { k: 2, p: 4, q: 4 }, room)?;
+    /// town.report(3, Position { x: 8.5, y: 8.5 })?;
+    /// town.add(0, Rectangle { a: 8, b: 8, w: 2, h: 2 })?;
+    /// assert_eq!(town.count(0), Ok(1));
+    /// town.report(4, Position { x: 9.5, y: 9.5 })?;
+    /// assert_eq!(town.count(0), Ok(2));
+    /// town.leave(3)?;
+    /// assert_eq!(town.count(0), Ok(1));
+    /// assert_eq!(town.count(1), Err(Refusal::ZoneStandsNot));
+    /// # Ok::<(), Refusal>(())
+    /// ```
+    pub fn count(&self, zone: u32) -> Result<u32, Refusal> {
+        let mut values = [0; 1];
+        read!(unwadegiro_count, self, zone, values.as_mut_ptr(), values.len())?;
+        Ok(values[0])
     }
 
     /// Where a car is: the position of its last accepted report. Refusals: [`Refusal::NoSuchCar`],

@@ -49,11 +49,48 @@ fn whole_case() {
     assert_eq!(town.where_is(7), Ok(at(10.0, 11.0)));
     assert_eq!(town.search(at(10.0, 11.0)).unwrap().zones, [1]);
     assert_eq!(town.roster(1).unwrap(), [7]);
+    assert_eq!(town.count(1), Ok(1));
     assert_eq!(town.add(1, rectangle(0, 0, 1, 1)), Err(Refusal::ZoneStands));
     let gone = town.leave(7).unwrap();
     assert_eq!((gone.squares, gone.left), (3, &[1][..]));
     assert_eq!(town.roster(1).unwrap(), []);
+    assert_eq!(town.count(1), Ok(0));
     assert!(town.is_sound());
+}
+
+#[test]
+fn head_counts() {
+    let mut town = Town::open(TOWN, ROOM).unwrap();
+    assert_eq!(town.count(0), Err(Refusal::ZoneStandsNot));
+    assert_eq!(town.count(16), Err(Refusal::NoSuchZone));
+    assert_eq!(town.count(u32::MAX), Err(Refusal::NoSuchZone));
+    for car in 0..5 {
+        town.report(car, at(car as f32, 0.5)).unwrap();
+    }
+    // cars that stand in a new zone are counted
+    assert_eq!(town.add(0, rectangle(0, 0, 4, 1)).unwrap().cars, 4);
+    town.add(1, rectangle(3, 0, 2, 2)).unwrap();
+    assert_eq!([0, 1].map(|zone| town.count(zone)), [Ok(4), Ok(2)]);
+    // within zone 0, from zone 0 to zone 1, out of both; a refused report
+    town.report(0, at(1.5, 0.0)).unwrap();
+    assert_eq!([0, 1].map(|zone| town.count(zone)), [Ok(4), Ok(2)]);
+    town.report(0, at(4.0, 1.0)).unwrap();
+    assert_eq!([0, 1].map(|zone| town.count(zone)), [Ok(3), Ok(3)]);
+    town.report(3, at(9.0, 9.0)).unwrap();
+    assert_eq!([0, 1].map(|zone| town.count(zone)), [Ok(2), Ok(2)]);
+    assert_eq!(town.report(4, at(16.0, 0.0)), Err(Refusal::PositionOffMap));
+    assert_eq!([0, 1].map(|zone| town.count(zone)), [Ok(2), Ok(2)]);
+    town.leave(4).unwrap();
+    assert_eq!([0, 1].map(|zone| town.count(zone)), [Ok(2), Ok(1)]);
+    // a removed zone has no count, and begins anew
+    town.remove(0).unwrap();
+    assert_eq!(town.count(0), Err(Refusal::ZoneStandsNot));
+    town.add(0, rectangle(9, 9, 1, 1)).unwrap();
+    assert_eq!([0, 1].map(|zone| town.count(zone)), [Ok(1), Ok(1)]);
+    assert!(town.is_sound());
+    town.clear();
+    town.add(0, rectangle(0, 0, 16, 16)).unwrap();
+    assert_eq!(town.count(0), Ok(0));
 }
 
 #[test]

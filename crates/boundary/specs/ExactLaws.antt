@@ -28,7 +28,7 @@ use Rattle.position.specs.declared.Position.{Position}
 use Rattle.position.specs.Answer.{columnOf, rowOf}
 use Rattle.model.specs.declared.answers.SoundnessOf.{SoundnessOf}
 use Rattle.model.specs.Answers.{Values, soundnessIs}
-use Rattle.model.specs.Model.{looked, spotted, Call, opening, adding, removing, reporting, leaving, searching, askRoster, askWhere, askSoundness, Event, meaning}
+use Rattle.model.specs.Model.{looked, spotted, Call, opening, adding, removing, reporting, leaving, searching, askRoster, askCount, askWhere, askSoundness, Event, meaning}
 use Rattle.tables.specs.Tables.{Tables, shapeOf, zoneRoom, carRoom, carIn}
 use Rattle.tables.specs.CheckLaws.{roomy→, size-of}
 use Rattle.tables.specs.Sound.{Sound}
@@ -98,6 +98,7 @@ gives-small t (reporting c p entered left) sound h = (looked-few h (carIn t c) p
 gives-small t (leaving c left) sound h = (levels-few h, (zones-few h _, tt))
 gives-small t (searching p found) sound h = (levels-few h, (zones-few h _, tt))
 gives-small t (askRoster z inside) sound h = (cars-few h _, tt)
+gives-small t (askCount z) sound h = (cars-few h _, tt)
 gives-small t (askWhere c) sound h = go (carIn t c)
   where
     go : (p : Option Position) → Small (numbersOf (spotted p))
@@ -146,10 +147,10 @@ module _ (s : Shape) {b : List (List ℕ)} {v v′ : List ℕ} {r : ℕ} where
   unfolding cutGives
   cut-exact q buffer = gives-exact 1 (cutChecks s q buffer) ((cut s q, buffer) ∷ []) (length (cut s q) ∷ []) refl (λ c. (cut-few s q (allowed→ s (c .0)), tt))
 
-  pub lengths-exact : (Z C E : ℕ) → Gives 7 (lengthsGives s Z C E) b v v′ r → Exact (fields 7 (lengthsGives s Z C E .answer)) v v′ r
+  pub lengths-exact : (Z C E : ℕ) → Gives 8 (lengthsGives s Z C E) b v v′ r → Exact (fields 8 (lengthsGives s Z C E .answer)) v v′ r
   unfolding lengthsGives
-  lengths-exact Z C E = gives-exact 7 (lengthsChecks s Z C E) [] (lengths s Z C E) refl (λ c.
+  lengths-exact Z C E = gives-exact 8 (lengthsChecks s Z C E) [] (lengths s Z C E) refl (λ c.
       let room = roomy→ Z C E (c .1 .0) in
       let product = mul-le-mul (room .zones-few) (room .cars-few) in
       let few = squares-few s (allowed→ s (c .0)) in
-      (omega arith, (omega arith, (omega arith, (omega arith, (omega arith, (omega arith, (omega arith, tt))))))))
+      (omega arith, (omega arith, (omega arith, (omega arith, (omega arith, (omega arith, (omega arith, (omega arith, tt)))))))))

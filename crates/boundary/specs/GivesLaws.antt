@@ -24,8 +24,8 @@ unfolding lengthsGives
 lengths-stops s Z C E j h = rw (stops j (lengthsChecks s Z C E) h)
 
 abbrev pub lengthsOf : Tables → List ℕ
-lengthsOf t = length (t .records .head) ∷ length (t .records .zones) ∷ length (t .records .cars) ∷ length (t .records .spots) ∷ length (t .derived .starts) ∷ length (t .derived .entries) ∷ length (t .derived .rosters) ∷ []
+lengthsOf t = length (t .records .head) ∷ length (t .records .zones) ∷ length (t .records .cars) ∷ length (t .records .spots) ∷ length (t .derived .starts) ∷ length (t .derived .entries) ∷ length (t .derived .rosters) ∷ length (t .derived .tallies) ∷ []
 
 -- tables pass the test of their lengths just where they have these
 pub long-lengths : (s : Shape) (Z C E : ℕ) (t : Tables) → Long s Z C E t ↔ (lengthsOf t ≡ lengths s Z C E)
-long-lengths s Z C E t = (λ (h : Long s Z C E t). cc, λ (e : lengthsOf t ≡ lengths s Z C E). record { head = cc; zones = cc; cars = cc; spots = cc; starts = cc; entries = cc; rosters = cc })
+long-lengths s Z C E t = (λ (h : Long s Z C E t). cc, λ (e : lengthsOf t ≡ lengths s Z C E). record { head = cc; zones = cc; cars = cc; spots = cc; starts = cc; entries = cc; rosters = cc; tallies = cc })

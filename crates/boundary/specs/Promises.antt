@@ -15,7 +15,7 @@ use Rattle.position.specs.declared.Position.{Position}
 use Rattle.model.specs.declared.answers.WhereIs.{WhereIs}
 use Rattle.model.specs.Answers.{whereIs}
 use Rattle.model.specs.Model.{Event, roomy}
-use Rattle.tables.specs.Tables.{Tables}
+use Rattle.tables.specs.Tables.{Tables, tally}
 use Rattle.promises.specs.Promise.{Keeps}
 use Rattle.promises.specs.Events.{whereTold}
 use Rattle.values.specs.Promises.{said, Tells, Points}
@@ -55,7 +55,7 @@ pub record Gives (many : ℕ) (given : Result (List ℕ)) (buffers : List (List 
 
 -- the lengths of the tables, in their order
 abbrev pub lengths : Shape → ℕ → ℕ → ℕ → List ℕ
-lengths s Z C E = 6 ∷ 4 * Z ∷ C ∷ 2 * C ∷ (squares s + 1) ∷ E ∷ Z * C ∷ []
+lengths s Z C E = 6 ∷ 4 * Z ∷ C ∷ 2 * C ∷ (squares s + 1) ∷ E ∷ Z * C ∷ Z * tally ∷ []
 
 abbrev pub lengthsChecks : Shape → ℕ → ℕ → ℕ → List Bar
 lengthsChecks s Z C E = (allowed s, 1) ∷ (roomy Z C E, 2) ∷ []

@@ -44,12 +44,13 @@ pub extern "C" fn unwadegiro_log(
     starts: &mut [u32],
     entries: &mut [u32],
     rosters: &mut [u8],
+    tallies: &mut [u32],
     piece: &[u8],
     held: &mut [u8],
     out: &mut [u8],
     values: &mut [usize],
 ) -> u32
-    ensures { λ r'. ⌜ Logs (fill (length (now (out .entry))) (lent head zones cars spots starts entries rosters .entry) (heldIn (now (held .entry))) (now (piece .entry))) (lent head zones cars spots starts entries rosters) (now (piece .entry)) (now (held .entry)) (now (held .exit)) (now (out .entry)) (now (out .exit)) (now (values .entry)) (now (values .exit)) r' ⌝ }
+    ensures { λ r'. ⌜ Logs (fill (length (now (out .entry))) (lent head zones cars spots starts entries rosters tallies .entry) (heldIn (now (held .entry))) (now (piece .entry))) (lent head zones cars spots starts entries rosters tallies) (now (piece .entry)) (now (held .entry)) (now (held .exit)) (now (out .entry)) (now (out .exit)) (now (values .entry)) (now (values .exit)) r' ⌝ }
 {
     let filling = replay::answer_piece(
         head,
@@ -59,6 +60,7 @@ pub extern "C" fn unwadegiro_log(
         starts,
         entries,
         rosters,
+        tallies,
         piece,
         held,
         out,
@@ -76,11 +78,12 @@ pub extern "C" fn unwadegiro_log_end(
     starts: &mut [u32],
     entries: &mut [u32],
     rosters: &mut [u8],
+    tallies: &mut [u32],
     held: &mut [u8],
     out: &mut [u8],
     values: &mut [usize],
 ) -> u32
-    ensures { λ r'. ⌜ Logs (finish (lent head zones cars spots starts entries rosters .entry) (heldIn (now (held .entry)))) (lent head zones cars spots starts entries rosters) [] (now (held .entry)) (now (held .exit)) (now (out .entry)) (now (out .exit)) (now (values .entry)) (now (values .exit)) r' ⌝ }
+    ensures { λ r'. ⌜ Logs (finish (lent head zones cars spots starts entries rosters tallies .entry) (heldIn (now (held .entry)))) (lent head zones cars spots starts entries rosters tallies) [] (now (held .entry)) (now (held .exit)) (now (out .entry)) (now (out .exit)) (now (values .entry)) (now (values .exit)) r' ⌝ }
 {
     let filling = replay::answer_end(
         head,
@@ -90,6 +93,7 @@ pub extern "C" fn unwadegiro_log_end(
         starts,
         entries,
         rosters,
+        tallies,
         held,
         out,
     );

@@ -1,11 +1,12 @@
-// Search, roster, where a car is, and soundness.
+// Search, roster, count, where a car is, and soundness.
 use position::Position;
+use values::tell_count;
 use values::tell_roster;
 use values::tell_searched;
 use values::tell_soundness;
 use values::tell_where;
 ghost use Rattle.tables.specs.Lent.{lent};
-ghost use Rattle.promises.specs.Events.{searched, rosterTold, soundnessTold};
+ghost use Rattle.promises.specs.Events.{searched, rosterTold, countTold, soundnessTold};
 ghost use Rattle.boundary.specs.Promises.{point, Relays, Pointed};
 
 // Two values: the squares looked into, the zones found.
@@ -18,12 +19,13 @@ pub extern "C" fn unwadegiro_search(
     starts: &[u32],
     entries: &[u32],
     rosters: &[u8],
+    tallies: &[u32],
     x: f32,
     y: f32,
     found: &mut [u32],
     values: &mut [u32],
 ) -> u32
-    ensures { λ r'. ⌜ Relays 2 (lent head zones cars spots starts entries rosters) (searched (point x y) found) (now (values .entry)) (now (values .exit)) r' ⌝ }
+    ensures { λ r'. ⌜ Relays 2 (lent head zones cars spots starts entries rosters tallies) (searched (point x y) found) (now (values .entry)) (now (values .exit)) r' ⌝ }
 {
     let p = Position { x, y };
     let searched = readings::search_zones(
@@ -34,6 +36,7 @@ pub extern "C" fn unwadegiro_search(
         starts,
         entries,
         rosters,
+        tallies,
         p,
         found,
     );
@@ -50,11 +53,12 @@ pub extern "C" fn unwadegiro_roster(
     starts: &[u32],
     entries: &[u32],
     rosters: &[u8],
+    tallies: &[u32],
     zone: u32,
     inside: &mut [u32],
     values: &mut [u32],
 ) -> u32
-    ensures { λ r'. ⌜ Relays 1 (lent head zones cars spots starts entries rosters) (rosterTold zone inside) (now (values .entry)) (now (values .exit)) r' ⌝ }
+    ensures { λ r'. ⌜ Relays 1 (lent head zones cars spots starts entries rosters tallies) (rosterTold zone inside) (now (values .entry)) (now (values .exit)) r' ⌝ }
 {
     let roster = readings::roster_of_zone(
         head,
@@ -64,10 +68,41 @@ pub extern "C" fn unwadegiro_roster(
         starts,
         entries,
         rosters,
+        tallies,
         zone,
         inside,
     );
     tell_roster(roster, values)
+}
+
+// One value: the cars in the zone.
+#[no_mangle]
+pub extern "C" fn unwadegiro_count(
+    head: &[u32],
+    zones: &[u32],
+    cars: &[u32],
+    spots: &[f32],
+    starts: &[u32],
+    entries: &[u32],
+    rosters: &[u8],
+    tallies: &[u32],
+    zone: u32,
+    values: &mut [u32],
+) -> u32
+    ensures { λ r'. ⌜ Relays 1 (lent head zones cars spots starts entries rosters tallies) (countTold zone) (now (values .entry)) (now (values .exit)) r' ⌝ }
+{
+    let count = readings::count_of_zone(
+        head,
+        zones,
+        cars,
+        spots,
+        starts,
+        entries,
+        rosters,
+        tallies,
+        zone,
+    );
+    tell_count(count, values)
 }
 
 // The position's two coordinates; 0 and 0 on a refusal.
@@ -80,12 +115,23 @@ pub extern "C" fn unwadegiro_where(
     starts: &[u32],
     entries: &[u32],
     rosters: &[u8],
+    tallies: &[u32],
     car: u32,
     position: &mut [f32],
 ) -> u32
-    ensures { λ r'. ⌜ Pointed (lent head zones cars spots starts entries rosters) car (now (position .entry)) (now (position .exit)) r' ⌝ }
+    ensures { λ r'. ⌜ Pointed (lent head zones cars spots starts entries rosters tallies) car (now (position .entry)) (now (position .exit)) r' ⌝ }
 {
-    let found = readings::where_is_car(head, zones, cars, spots, starts, entries, rosters, car);
+    let found = readings::where_is_car(
+        head,
+        zones,
+        cars,
+        spots,
+        starts,
+        entries,
+        rosters,
+        tallies,
+        car,
+    );
     tell_where(found, position)
 }
 
@@ -99,10 +145,20 @@ pub extern "C" fn unwadegiro_sound(
     starts: &[u32],
     entries: &[u32],
     rosters: &[u8],
+    tallies: &[u32],
     values: &mut [u32],
 ) -> u32
-    ensures { λ r'. ⌜ Relays 1 (lent head zones cars spots starts entries rosters) soundnessTold (now (values .entry)) (now (values .exit)) r' ⌝ }
+    ensures { λ r'. ⌜ Relays 1 (lent head zones cars spots starts entries rosters tallies) soundnessTold (now (values .entry)) (now (values .exit)) r' ⌝ }
 {
-    let soundness = readings::soundness_of_town(head, zones, cars, spots, starts, entries, rosters);
+    let soundness = readings::soundness_of_town(
+        head,
+        zones,
+        cars,
+        spots,
+        starts,
+        entries,
+        rosters,
+        tallies,
+    );
     tell_soundness(soundness, values)
 }

@@ -16,6 +16,7 @@ pub extern "C" fn unwadegiro_report(
     starts: &[u32],
     entries: &[u32],
     rosters: &mut [u8],
+    tallies: &mut [u32],
     car: u32,
     x: f32,
     y: f32,
@@ -23,7 +24,7 @@ pub extern "C" fn unwadegiro_report(
     left: &mut [u32],
     values: &mut [u32],
 ) -> u32
-    ensures { λ r'. ⌜ Relays 3 (lent head zones cars spots starts entries rosters) (reported car (point x y) entered left) (now (values .entry)) (now (values .exit)) r' ⌝ }
+    ensures { λ r'. ⌜ Relays 3 (lent head zones cars spots starts entries rosters tallies) (reported car (point x y) entered left) (now (values .entry)) (now (values .exit)) r' ⌝ }
 {
     let p = Position { x, y };
     let reported = cars::report_car(
@@ -34,6 +35,7 @@ pub extern "C" fn unwadegiro_report(
         starts,
         entries,
         rosters,
+        tallies,
         car,
         p,
         entered,
@@ -52,11 +54,12 @@ pub extern "C" fn unwadegiro_leave(
     starts: &[u32],
     entries: &[u32],
     rosters: &mut [u8],
+    tallies: &mut [u32],
     car: u32,
     left: &mut [u32],
     values: &mut [u32],
 ) -> u32
-    ensures { λ r'. ⌜ Relays 2 (lent head zones cars spots starts entries rosters) (leftMap car left) (now (values .entry)) (now (values .exit)) r' ⌝ }
+    ensures { λ r'. ⌜ Relays 2 (lent head zones cars spots starts entries rosters tallies) (leftMap car left) (now (values .entry)) (now (values .exit)) r' ⌝ }
 {
     let gone = cars::leave_map(
         head,
@@ -66,6 +69,7 @@ pub extern "C" fn unwadegiro_leave(
         starts,
         entries,
         rosters,
+        tallies,
         car,
         left,
     );

@@ -2,16 +2,17 @@
 use squares::Rect;
 use squares::Shape;
 use squares::Shaped;
+use tables::TALLY;
 use values::tell_cut;
+use values::tell_eight;
 use values::tell_number;
-use values::tell_seven;
 use values::tell_square;
 ghost use mathlib.Core.List.{[], _∷_};
 ghost use Rattle.squares.specs.Shape.{shape};
 ghost use Rattle.grid.specs.Promises.{numberGives, squareGives, cutGives};
 ghost use Rattle.boundary.specs.Promises.{rect, Gives, lengthsGives};
 
-// Seven values: the lengths of the tables.
+// Eight values: the lengths of the tables.
 #[no_mangle]
 pub extern "C" fn unwadegiro_lengths(
     k: u32,
@@ -22,18 +23,18 @@ pub extern "C" fn unwadegiro_lengths(
     entries: u32,
     values: &mut [u32],
 ) -> u32
-    ensures { λ r'. ⌜ Gives 7 (lengthsGives (shape k P Q) zones cars entries) [] (now (values .entry)) (now (values .exit)) r' ⌝ }
+    ensures { λ r'. ⌜ Gives 8 (lengthsGives (shape k P Q) zones cars entries) [] (now (values .entry)) (now (values .exit)) r' ⌝ }
 {
     let Shaped::Allowed(s) = Shape::new(k, P, Q) else {
-        return tell_seven(1, 0, 0, 0, 0, 0, 0, 0, values);
+        return tell_eight(1, 0, 0, 0, 0, 0, 0, 0, 0, values);
     };
     if !tables::roomy(zones, cars, entries) {
-        return tell_seven(2, 0, 0, 0, 0, 0, 0, 0, values);
+        return tell_eight(2, 0, 0, 0, 0, 0, 0, 0, 0, values);
     }
     let Z = zones as usize;
     let C = cars as usize;
     let starts = s.squares() as usize + 1;
-    tell_seven(
+    tell_eight(
         0,
         6,
         4 * Z,
@@ -42,6 +43,7 @@ pub extern "C" fn unwadegiro_lengths(
         starts,
         entries as usize,
         Z * C,
+        Z * TALLY,
         values,
     )
 }

@@ -18,6 +18,7 @@ pub extern "C" fn unwadegiro_open(
     starts: &mut [u32],
     entries: &mut [u32],
     rosters: &mut [u8],
+    tallies: &mut [u32],
     k: u32,
     P: u32,
     Q: u32,
@@ -25,7 +26,7 @@ pub extern "C" fn unwadegiro_open(
     C: u32,
     E: u32,
 ) -> u32
-    ensures { λ r'. ⌜ Relays 0 (lent head zones cars spots starts entries rosters) (opened (asked k P Q Z C E)) [] [] r' ⌝ }
+    ensures { λ r'. ⌜ Relays 0 (lent head zones cars spots starts entries rosters tallies) (opened (asked k P Q Z C E)) [] [] r' ⌝ }
 {
     tell_opened(zones::open_town(
         head,
@@ -35,6 +36,7 @@ pub extern "C" fn unwadegiro_open(
         starts,
         entries,
         rosters,
+        tallies,
         k,
         P,
         Q,
@@ -54,6 +56,7 @@ pub extern "C" fn unwadegiro_add(
     starts: &mut [u32],
     entries: &mut [u32],
     rosters: &mut [u8],
+    tallies: &mut [u32],
     zone: u32,
     a: u32,
     b: u32,
@@ -61,10 +64,21 @@ pub extern "C" fn unwadegiro_add(
     h: u32,
     values: &mut [u32],
 ) -> u32
-    ensures { λ r'. ⌜ Relays 2 (lent head zones cars spots starts entries rosters) (added zone (rect a b w h)) (now (values .entry)) (now (values .exit)) r' ⌝ }
+    ensures { λ r'. ⌜ Relays 2 (lent head zones cars spots starts entries rosters tallies) (added zone (rect a b w h)) (now (values .entry)) (now (values .exit)) r' ⌝ }
 {
     let r = Rect { a, b, w, h };
-    let added = zones::add_zone(head, zones, cars, spots, starts, entries, rosters, zone, r);
+    let added = zones::add_zone(
+        head,
+        zones,
+        cars,
+        spots,
+        starts,
+        entries,
+        rosters,
+        tallies,
+        zone,
+        r,
+    );
     tell_added(added, values)
 }
 
@@ -78,9 +92,20 @@ pub extern "C" fn unwadegiro_remove(
     starts: &mut [u32],
     entries: &mut [u32],
     rosters: &mut [u8],
+    tallies: &mut [u32],
     zone: u32,
 ) -> u32
-    ensures { λ r'. ⌜ Relays 0 (lent head zones cars spots starts entries rosters) (removed zone) [] [] r' ⌝ }
+    ensures { λ r'. ⌜ Relays 0 (lent head zones cars spots starts entries rosters tallies) (removed zone) [] [] r' ⌝ }
 {
-    tell_removed(zones::remove_zone(head, zones, cars, spots, starts, entries, rosters, zone))
+    tell_removed(zones::remove_zone(
+        head,
+        zones,
+        cars,
+        spots,
+        starts,
+        entries,
+        rosters,
+        tallies,
+        zone,
+    ))
 }

@@ -31,6 +31,7 @@ use Rattle.promises.specs.Promise.{means, bars, Keeps}
 use Rattle.promises.specs.Events.{event}
 use Rattle.promises.specs.PromiseLaws.{keeps-done}
 use Rattle.rosters.specs.Rosters.{stamped}
+use Rattle.tallies.specs.Counts.{moved}
 use Rattle.edits.specs.StampLaws.{departed-is}
 use Rattle.lookup.specs.declared.looks.Looked.{Looked}
 use Rattle.lookup.specs.Looks.{Looks}
@@ -76,13 +77,13 @@ module _ {t : Tables} {c : ℕ} {b : List ℕ} (ok : Leavable t c b) {s : Shape}
           let k = rw (shape, ← stood .1, ← stood .2) at h in
           rw (car-in t c (ok .on-map)) (front-is (k .found) (looked-holds sound (columnOf (shapeOf t) old) (rowOf (shapeOf t) old) (column-below (shapeOf t) old (stood .0)) (row-below (shapeOf t) old (stood .0)) (length b) (ok .enough)))
 
-      module _ {cars′ rosters′ : List ℕ} {many : ℕ} (room : many ≡ carRoom t) (car : cars′ ≡ set (t .records .cars) c 0) (gone : rosters′ ≡ stamped (t .derived .rosters) (take (r .zones) b′) many c 0) where
+      module _ {cars′ rosters′ tallies′ : List ℕ} {many : ℕ} (room : many ≡ carRoom t) (car : cars′ ≡ set (t .records .cars) c 0) (gone : rosters′ ≡ stamped (t .derived .rosters) (take (r .zones) b′) many c 0) (fewer : tallies′ ≡ moved (t .derived .tallies) (take (r .zones) b′) 4294967295) where
         abbrev after : Tables
-        after = tables (t .records .head) (t .records .zones) cars′ (t .records .spots) (t .derived .starts) (t .derived .entries) rosters′
+        after = tables (t .records .head) (t .records .zones) cars′ (t .records .spots) (t .derived .starts) (t .derived .entries) rosters′ tallies′
 
         steps : Sound t → after ≡ step (carOff c) t
         unfolding rosterHas
-        steps sound = rw (car, gone, room) (departed-is t sound c (ok .car) (take (r .zones) b′) (front-shown (found sound)))
+        steps sound = rw (car, gone, fewer, room) (departed-is t sound c (ok .car) (take (r .zones) b′) (front-shown (found sound)))
 
         pub leave-kept : Keeps (both t after) (event (leaving c b) (b′ ∷ []) (leftIs (Left.Done (r .squares) (r .zones))))
         unfolding meaning first

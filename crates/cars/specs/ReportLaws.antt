@@ -22,6 +22,7 @@ use Rattle.promises.specs.Promise.{Keeps}
 use Rattle.promises.specs.Events.{event}
 use Rattle.promises.specs.PromiseLaws.{keeps-done}
 use Rattle.rosters.specs.Rosters.{stamped}
+use Rattle.tallies.specs.Counts.{moved}
 use Rattle.edits.specs.StampLaws.{reported-is}
 use Rattle.lookup.specs.declared.looks.Crossed.{Crossed}
 use Rattle.lookup.specs.Looks.{Sees}
@@ -45,13 +46,13 @@ module _ {t : Tables} {c : ℕ} {p : Position} {x y : ℕ} {e l : List ℕ} (ok 
       moves : Sound t → Moves t c p e e′ l l′ r
       moves sound = sees-sound sound c p (ok .town) e l (ok .room-in) (ok .room-out) (rw (shape, ← ok .column, ← ok .row) at h)
 
-      module _ {cars′ rosters′ rosters″ : List ℕ} {spots′ : List Float} {many : ℕ} (room : many ≡ carRoom t) (came : rosters′ ≡ stamped (t .derived .rosters) (take (r .entered) e′) many c 1) (gone : rosters″ ≡ stamped rosters′ (take (r .left) l′) many c 0) (spot : spots′ ≡ withSpot (t .records .spots) c p) (car : cars′ ≡ set (t .records .cars) c 1) where
+      module _ {cars′ rosters′ rosters″ tallies′ tallies″ : List ℕ} {spots′ : List Float} {many : ℕ} (room : many ≡ carRoom t) (came : rosters′ ≡ stamped (t .derived .rosters) (take (r .entered) e′) many c 1) (gone : rosters″ ≡ stamped rosters′ (take (r .left) l′) many c 0) (more : tallies′ ≡ moved (t .derived .tallies) (take (r .entered) e′) 1) (fewer : tallies″ ≡ moved tallies′ (take (r .left) l′) 4294967295) (spot : spots′ ≡ withSpot (t .records .spots) c p) (car : cars′ ≡ set (t .records .cars) c 1) where
         abbrev after : Tables
-        after = tables (t .records .head) (t .records .zones) cars′ spots′ (t .derived .starts) (t .derived .entries) rosters″
+        after = tables (t .records .head) (t .records .zones) cars′ spots′ (t .derived .starts) (t .derived .entries) rosters″ tallies″
 
         steps : (sound : Sound t) → Moves t c p e e′ l l′ r → after ≡ step (carAt c p) t
         unfolding zoneHolds rosterHas
-        steps sound k = rw (car, spot, gone, came, room) (reported-is t sound c (ok .car) p (take (r .entered) e′) (take (r .left) l′) (front-shown (k .came)) (front-shown (k .gone)))
+        steps sound k = rw (car, spot, gone, came, fewer, more, room) (reported-is t sound c (ok .car) p (take (r .entered) e′) (take (r .left) l′) (front-shown (k .came)) (front-shown (k .gone)))
 
         pub report-kept : Keeps (both t after) (event (reporting c p e l) (e′ ∷ l′ ∷ []) (reportedIs (Reported.Done (r .squares) (r .entered) (r .left))))
         unfolding meaning first

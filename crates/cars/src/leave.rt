@@ -16,12 +16,23 @@ fn refuse_leave(
     starts: &[u32],
     entries: &[u32],
     rosters: &[u8],
+    tallies: &[u32],
     car: u32,
     left: &[u32],
 ) -> u32
-    ensures { λ r. ⌜ r ≡ bars (lent head zones cars spots starts entries rosters .entry) (leaving car (now (left .entry))) ⌝ }
+    ensures { λ r. ⌜ r ≡ bars (lent head zones cars spots starts entries rosters tallies .entry) (leaving car (now (left .entry))) ⌝ }
 {
-    let refusal = promises::refuse_car(head, zones, cars, spots, starts, entries, rosters, car);
+    let refusal = promises::refuse_car(
+        head,
+        zones,
+        cars,
+        spots,
+        starts,
+        entries,
+        rosters,
+        tallies,
+        car,
+    );
     if refusal != 0 {
         return refusal;
     }
@@ -41,10 +52,11 @@ pub fn leave_map(
     starts: &[u32],
     entries: &[u32],
     rosters: &mut [u8],
+    tallies: &mut [u32],
     car: u32,
     left: &mut [u32],
 ) -> Left
-    ensures { λ r. ⌜ Keeps (lent head zones cars spots starts entries rosters) (leftMap car left r) ⌝ }
+    ensures { λ r. ⌜ Keeps (lent head zones cars spots starts entries rosters tallies) (leftMap car left r) ⌝ }
 {
     let refusal = refuse_leave(
         head,
@@ -54,6 +66,7 @@ pub fn leave_map(
         starts,
         entries,
         rosters,
+        tallies,
         car,
         left,
     );
@@ -69,5 +82,6 @@ pub fn leave_map(
     let looked = look_up(s, x, y, starts, entries, left);
     let gone = looked.zones;
     rosters::stamp_rows(rosters, &left[..gone], tables::car_room(head), car, 0);
+    tallies::move_counts(tallies, &left[..gone], 0xFFFF_FFFF);
     Left::Done(looked.squares, gone)
 }

@@ -31,14 +31,15 @@ fn admit(
     starts: &[u32],
     entries: &[u32],
     rosters: &[u8],
+    tallies: &[u32],
     car: u32,
     p: Position,
     entered: &[u32],
     left: &[u32],
 ) -> Admitted
-    ensures { λ r. ⌜ r ≡ admitted (lent head zones cars spots starts entries rosters .entry) car p (now (entered .entry)) (now (left .entry)) ⌝ }
+    ensures { λ r. ⌜ r ≡ admitted (lent head zones cars spots starts entries rosters tallies .entry) car p (now (entered .entry)) (now (left .entry)) ⌝ }
 {
-    if !tables::sized(head, zones, cars, spots, starts, entries, rosters) {
+    if !tables::sized(head, zones, cars, spots, starts, entries, rosters, tallies) {
         return Admitted::Refused(3);
     }
     if tables::car_room(head) <= car {
@@ -118,6 +119,7 @@ fn move_car(
     starts: &[u32],
     entries: &[u32],
     rosters: &mut [u8],
+    tallies: &mut [u32],
     car: u32,
     p: Position,
     x: u32,
@@ -125,8 +127,8 @@ fn move_car(
     entered: &mut [u32],
     left: &mut [u32],
 ) -> Reported
-    requires { ⌜ Reportable (given head zones cars spots starts entries rosters) car p x y (now entered) (now left) ⌝ }
-    ensures { λ r. ⌜ Keeps (lent head zones cars spots starts entries rosters) (reported car p entered left r) ⌝ }
+    requires { ⌜ Reportable (given head zones cars spots starts entries rosters tallies) car p x y (now entered) (now left) ⌝ }
+    ensures { λ r. ⌜ Keeps (lent head zones cars spots starts entries rosters tallies) (reported car p entered left r) ⌝ }
 {
     let s = tables::shape_in(head);
     let c = car as usize;
@@ -148,6 +150,8 @@ fn move_car(
     let gone = seen.left;
     rosters::stamp_rows(rosters, &entered[..came], many, car, 1);
     rosters::stamp_rows(rosters, &left[..gone], many, car, 0);
+    tallies::move_counts(tallies, &entered[..came], 1);
+    tallies::move_counts(tallies, &left[..gone], 0xFFFF_FFFF);
     edits::write_spot(spots, c, p);
     edits::write_car(cars, c, 1);
     Reported::Done(seen.squares, came, gone)
@@ -163,12 +167,13 @@ pub fn report_car(
     starts: &[u32],
     entries: &[u32],
     rosters: &mut [u8],
+    tallies: &mut [u32],
     car: u32,
     p: Position,
     entered: &mut [u32],
     left: &mut [u32],
 ) -> Reported
-    ensures { λ r. ⌜ Keeps (lent head zones cars spots starts entries rosters) (reported car p entered left r) ⌝ }
+    ensures { λ r. ⌜ Keeps (lent head zones cars spots starts entries rosters tallies) (reported car p entered left r) ⌝ }
 {
     let admitted = admit(
         head,
@@ -178,6 +183,7 @@ pub fn report_car(
         starts,
         entries,
         rosters,
+        tallies,
         car,
         p,
         entered,
@@ -193,6 +199,7 @@ pub fn report_car(
             starts,
             entries,
             rosters,
+            tallies,
             car,
             p,
             x,

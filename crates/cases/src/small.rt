@@ -3,6 +3,7 @@ use crate::bracket;
 use crate::end;
 use crate::number;
 use crate::text;
+use model::CountOf;
 use model::Opened;
 use model::RosterOf;
 use model::Searched;
@@ -22,6 +23,7 @@ pub struct Small {
     pub starts: [u32; 6],
     pub entries: [u32; 4],
     pub rosters: [u8; 4],
+    pub tallies: [u32; 2],
 }
 
 const FREE: u32 = 0xFFFF_FFFF;
@@ -37,6 +39,7 @@ fn standing() -> Small {
         starts: [0, 0, 1, 2, 2, 2],
         entries: [257, 513, FREE, FREE],
         rosters: [0, 0, 1, 0],
+        tallies: [0, 1],
     }
 }
 
@@ -57,8 +60,18 @@ fn soundness(t: Small) {
     let starts = t.starts;
     let entries = t.entries;
     let rosters = t.rosters;
+    let tallies = t.tallies;
     text(b" sound ->");
-    say(readings::soundness_of_town(&head, &zones, &cars, &spots, &starts, &entries, &rosters));
+    say(readings::soundness_of_town(
+        &head,
+        &zones,
+        &cars,
+        &spots,
+        &starts,
+        &entries,
+        &rosters,
+        &tallies,
+    ));
 }
 
 fn opened() {
@@ -69,8 +82,18 @@ fn opened() {
     let mut starts = [7u32; 6];
     let mut entries = [7u32; 4];
     let mut rosters = [7u8; 4];
+    let mut tallies = [7u32; 2];
     text(b"garbage: sound ->");
-    say(readings::soundness_of_town(&head, &zones, &cars, &spots, &starts, &entries, &rosters));
+    say(readings::soundness_of_town(
+        &head,
+        &zones,
+        &cars,
+        &spots,
+        &starts,
+        &entries,
+        &rosters,
+        &tallies,
+    ));
     text(b"open 1 1 1: 2 2 4 ->");
     match zones::open_town(
         &mut head,
@@ -80,6 +103,7 @@ fn opened() {
         &mut starts,
         &mut entries,
         &mut rosters,
+        &mut tallies,
         1,
         1,
         1,
@@ -92,10 +116,19 @@ fn opened() {
     }
     end();
     text(b"opened: sound ->");
-    say(readings::soundness_of_town(&head, &zones, &cars, &spots, &starts, &entries, &rosters));
+    say(readings::soundness_of_town(
+        &head,
+        &zones,
+        &cars,
+        &spots,
+        &starts,
+        &entries,
+        &rosters,
+        &tallies,
+    ));
 }
 
-fn search(x: u32, y: u32, out: &mut [u32]) {
+fn find(p: Position, out: &mut [u32]) {
     let t = standing();
     let head = t.head;
     let zones = t.zones;
@@ -104,14 +137,7 @@ fn search(x: u32, y: u32, out: &mut [u32]) {
     let starts = t.starts;
     let entries = t.entries;
     let rosters = t.rosters;
-    text(b"search");
-    number(x as u64);
-    number(y as u64);
-    text(b" ->");
-    let p = Position {
-        x: float_of(x),
-        y: float_of(y),
-    };
+    let tallies = t.tallies;
     match readings::search_zones(
         &head,
         &zones,
@@ -120,6 +146,7 @@ fn search(x: u32, y: u32, out: &mut [u32]) {
         &starts,
         &entries,
         &rosters,
+        &tallies,
         p,
         out,
     ) {
@@ -130,6 +157,18 @@ fn search(x: u32, y: u32, out: &mut [u32]) {
             number(zones as u64);
         }
     }
+}
+
+fn search(x: u32, y: u32, out: &mut [u32]) {
+    text(b"search");
+    number(x as u64);
+    number(y as u64);
+    text(b" ->");
+    let p = Position {
+        x: float_of(x),
+        y: float_of(y),
+    };
+    find(p, out);
     bracket(out);
 }
 
@@ -142,6 +181,7 @@ fn roster(zone: u32, out: &mut [u32]) {
     let starts = t.starts;
     let entries = t.entries;
     let rosters = t.rosters;
+    let tallies = t.tallies;
     text(b"roster");
     number(zone as u64);
     text(b" ->");
@@ -153,6 +193,7 @@ fn roster(zone: u32, out: &mut [u32]) {
         &starts,
         &entries,
         &rosters,
+        &tallies,
         zone,
         out,
     ) {
@@ -165,6 +206,39 @@ fn roster(zone: u32, out: &mut [u32]) {
     bracket(out);
 }
 
+fn count(zone: u32) {
+    let t = standing();
+    let head = t.head;
+    let zones = t.zones;
+    let cars = t.cars;
+    let spots = t.spots;
+    let starts = t.starts;
+    let entries = t.entries;
+    let rosters = t.rosters;
+    let tallies = t.tallies;
+    text(b"count");
+    number(zone as u64);
+    text(b" ->");
+    match readings::count_of_zone(
+        &head,
+        &zones,
+        &cars,
+        &spots,
+        &starts,
+        &entries,
+        &rosters,
+        &tallies,
+        zone,
+    ) {
+        CountOf::Refused(n) => number(n as u64),
+        CountOf::Cars(cars) => {
+            number(0);
+            number(cars as u64);
+        }
+    }
+    end();
+}
+
 fn where_car(car: u32) {
     let t = standing();
     let head = t.head;
@@ -174,6 +248,7 @@ fn where_car(car: u32) {
     let starts = t.starts;
     let entries = t.entries;
     let rosters = t.rosters;
+    let tallies = t.tallies;
     text(b"where");
     number(car as u64);
     text(b" ->");
@@ -185,6 +260,7 @@ fn where_car(car: u32) {
         &starts,
         &entries,
         &rosters,
+        &tallies,
         car,
     ) {
         WhereIs::Refused(n) => number(n as u64),
@@ -213,6 +289,9 @@ fn reads() {
     let mut short = [7u32; 1];
     search(0x3F00_0000, 0x0000_0000, &mut short);
     roster(1, &mut short);
+    count(1);
+    count(0);
+    count(2);
     where_car(0);
     where_car(1);
     where_car(2);
@@ -275,6 +354,14 @@ fn derived() {
     missing.rosters[2] = 0;
     text(b"a car missing");
     soundness(missing);
+    let mut counted = standing();
+    counted.tallies[1] = 2;
+    text(b"a car counted twice");
+    soundness(counted);
+    let mut down = standing();
+    down.tallies[0] = 1;
+    text(b"a count where no zone stands");
+    soundness(down);
 }
 
 pub fn small_town() {

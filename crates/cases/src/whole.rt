@@ -5,6 +5,7 @@ use crate::end;
 use crate::number;
 use crate::text;
 use model::Added;
+use model::CountOf;
 use model::Left;
 use model::Opened;
 use model::Removed;
@@ -24,8 +25,9 @@ fn say_sound(
     starts: &[u32],
     entries: &[u32],
     rosters: &[u8],
+    tallies: &[u32],
 ) {
-    match readings::soundness_of_town(head, zones, cars, spots, starts, entries, rosters) {
+    match readings::soundness_of_town(head, zones, cars, spots, starts, entries, rosters, tallies) {
         SoundnessOf::Refused(n) => number(n as u64),
         SoundnessOf::Sound => text(b" sound"),
         SoundnessOf::Unsound => text(b" unsound"),
@@ -41,6 +43,7 @@ fn open(
     starts: &mut [u32],
     entries: &mut [u32],
     rosters: &mut [u8],
+    tallies: &mut [u32],
     s: Shape,
 ) {
     text(b"M ->");
@@ -52,6 +55,7 @@ fn open(
         starts,
         entries,
         rosters,
+        tallies,
         s.k,
         s.P,
         s.Q,
@@ -62,7 +66,7 @@ fn open(
         Opened::Refused(n) => number(n as u64),
         Opened::Done => number(0),
     }
-    say_sound(head, zones, cars, spots, starts, entries, rosters);
+    say_sound(head, zones, cars, spots, starts, entries, rosters, tallies);
 }
 
 fn add(
@@ -73,13 +77,25 @@ fn add(
     starts: &mut [u32],
     entries: &mut [u32],
     rosters: &mut [u8],
+    tallies: &mut [u32],
     zone: u32,
     r: Rect,
 ) {
     text(b"A");
     number(zone as u64);
     text(b" ->");
-    match zones::add_zone(head, zones, cars, spots, starts, entries, rosters, zone, r) {
+    match zones::add_zone(
+        head,
+        zones,
+        cars,
+        spots,
+        starts,
+        entries,
+        rosters,
+        tallies,
+        zone,
+        r,
+    ) {
         Added::Refused(n) => number(n as u64),
         Added::Done(squares, inside) => {
             number(0);
@@ -87,7 +103,7 @@ fn add(
             number(inside as u64);
         }
     }
-    say_sound(head, zones, cars, spots, starts, entries, rosters);
+    say_sound(head, zones, cars, spots, starts, entries, rosters, tallies);
 }
 
 fn remove(
@@ -98,16 +114,27 @@ fn remove(
     starts: &mut [u32],
     entries: &mut [u32],
     rosters: &mut [u8],
+    tallies: &mut [u32],
     zone: u32,
 ) {
     text(b"D");
     number(zone as u64);
     text(b" ->");
-    match zones::remove_zone(head, zones, cars, spots, starts, entries, rosters, zone) {
+    match zones::remove_zone(
+        head,
+        zones,
+        cars,
+        spots,
+        starts,
+        entries,
+        rosters,
+        tallies,
+        zone,
+    ) {
         Removed::Refused(n) => number(n as u64),
         Removed::Done => number(0),
     }
-    say_sound(head, zones, cars, spots, starts, entries, rosters);
+    say_sound(head, zones, cars, spots, starts, entries, rosters, tallies);
 }
 
 fn report(
@@ -118,6 +145,7 @@ fn report(
     starts: &[u32],
     entries: &[u32],
     rosters: &mut [u8],
+    tallies: &mut [u32],
     car: u32,
     x: u32,
     y: u32,
@@ -139,6 +167,7 @@ fn report(
         starts,
         entries,
         rosters,
+        tallies,
         car,
         p,
         &mut entered,
@@ -152,7 +181,7 @@ fn report(
             number(gone as u64);
         }
     }
-    say_sound(head, zones, cars, spots, starts, entries, rosters);
+    say_sound(head, zones, cars, spots, starts, entries, rosters, tallies);
     bracket(&entered);
     bracket(&left);
 }
@@ -165,6 +194,7 @@ fn leave(
     starts: &[u32],
     entries: &[u32],
     rosters: &mut [u8],
+    tallies: &mut [u32],
     car: u32,
 ) {
     let mut left = [7u32; 16];
@@ -179,6 +209,7 @@ fn leave(
         starts,
         entries,
         rosters,
+        tallies,
         car,
         &mut left,
     ) {
@@ -189,7 +220,7 @@ fn leave(
             number(gone as u64);
         }
     }
-    say_sound(head, zones, cars, spots, starts, entries, rosters);
+    say_sound(head, zones, cars, spots, starts, entries, rosters, tallies);
     bracket(&left);
 }
 
@@ -201,6 +232,7 @@ fn roster(
     starts: &[u32],
     entries: &[u32],
     rosters: &[u8],
+    tallies: &[u32],
     zone: u32,
 ) {
     let mut out = [7u32; 64];
@@ -215,6 +247,7 @@ fn roster(
         starts,
         entries,
         rosters,
+        tallies,
         zone,
         &mut out,
     ) {
@@ -227,7 +260,41 @@ fn roster(
     bracket(&out);
 }
 
-// One line: what it asks, and five numbers.
+fn count(
+    head: &[u32],
+    zones: &[u32],
+    cars: &[u32],
+    spots: &[f32],
+    starts: &[u32],
+    entries: &[u32],
+    rosters: &[u8],
+    tallies: &[u32],
+    zone: u32,
+) {
+    text(b"count");
+    number(zone as u64);
+    text(b" ->");
+    match readings::count_of_zone(
+        head,
+        zones,
+        cars,
+        spots,
+        starts,
+        entries,
+        rosters,
+        tallies,
+        zone,
+    ) {
+        CountOf::Refused(n) => number(n as u64),
+        CountOf::Cars(n) => {
+            number(0);
+            number(n as u64);
+        }
+    }
+    end();
+}
+
+// One line: what it asks, and five numbers. A roster's count follows it.
 fn line(
     head: &[u32],
     zones: &mut [u32],
@@ -236,6 +303,7 @@ fn line(
     starts: &mut [u32],
     entries: &mut [u32],
     rosters: &mut [u8],
+    tallies: &mut [u32],
     letter: u32,
     n: u32,
     a: u32,
@@ -252,24 +320,78 @@ fn line(
             starts,
             entries,
             rosters,
+            tallies,
             n,
             Rect { a, b, w, h },
         );
         return;
     }
     if letter == 68 {
-        remove(head, zones, cars, spots, starts, entries, rosters, n);
+        remove(
+            head,
+            zones,
+            cars,
+            spots,
+            starts,
+            entries,
+            rosters,
+            tallies,
+            n,
+        );
         return;
     }
     if letter == 80 {
-        report(head, zones, cars, spots, starts, entries, rosters, n, a, b);
+        report(
+            head,
+            zones,
+            cars,
+            spots,
+            starts,
+            entries,
+            rosters,
+            tallies,
+            n,
+            a,
+            b,
+        );
         return;
     }
     if letter == 76 {
-        leave(head, zones, cars, spots, starts, entries, rosters, n);
+        leave(
+            head,
+            zones,
+            cars,
+            spots,
+            starts,
+            entries,
+            rosters,
+            tallies,
+            n,
+        );
         return;
     }
-    roster(head, zones, cars, spots, starts, entries, rosters, n);
+    roster(
+        head,
+        zones,
+        cars,
+        spots,
+        starts,
+        entries,
+        rosters,
+        tallies,
+        n,
+    );
+    count(
+        head,
+        zones,
+        cars,
+        spots,
+        starts,
+        entries,
+        rosters,
+        tallies,
+        n,
+    );
 }
 
 // Lines, each of six numbers.
@@ -281,6 +403,7 @@ fn lines(
     starts: &mut [u32],
     entries: &mut [u32],
     rosters: &mut [u8],
+    tallies: &mut [u32],
     script: &[u32],
 ) {
     let many = script.len() / 6;
@@ -295,6 +418,7 @@ fn lines(
             starts,
             entries,
             rosters,
+            tallies,
             script[at],
             script[at + 1],
             script[at + 2],
@@ -439,6 +563,7 @@ pub fn whole_case(s: Shape) {
     let mut starts = [7u32; 337];
     let mut entries = [7u32; 2048];
     let mut rosters = [7u8; 1024];
+    let mut tallies = [7u32; 16];
     open(
         &mut head,
         &mut zones,
@@ -447,6 +572,7 @@ pub fn whole_case(s: Shape) {
         &mut starts,
         &mut entries,
         &mut rosters,
+        &mut tallies,
         s,
     );
     lines(
@@ -457,6 +583,7 @@ pub fn whole_case(s: Shape) {
         &mut starts,
         &mut entries,
         &mut rosters,
+        &mut tallies,
         &SCRIPT,
     );
 }

@@ -31,7 +31,7 @@ use Rattle.edits.specs.StepLaws.{fresh-sound, used-room}
 sized-parked : (t : Tables) (cars : List ℕ) (spots : List Float) → Sized t → length cars ≡ length (t .records .cars) → length spots ≡ length (t .records .spots) → Sized (parked t cars spots)
 sized-parked t cars spots h e f =
     let l = h .lengths in
-    record { shape = h .shape; room = h .room; lengths = record { head = l .head; zones = l .zones; cars = e ∙ l .cars; spots = f ∙ l .spots; starts = l .starts; entries = l .entries; rosters = l .rosters } }
+    record { shape = h .shape; room = h .room; lengths = record { head = l .head; zones = l .zones; cars = e ∙ l .cars; spots = f ∙ l .spots; starts = l .starts; entries = l .entries; rosters = l .rosters; tallies = l .tallies } }
 
 -- sound tables stay sound where the cars then placed are on the map
 parked-sound : (t : Tables) (cars : List ℕ) (spots : List Float) → Sound t → length cars ≡ length (t .records .cars) → length spots ≡ length (t .records .spots) → ((d : ℕ) → placedIn cars d ≡ true → onTown (shapeOf t) (spotIn spots d) ≡ true) → Sound (fresh (parked t cars spots))

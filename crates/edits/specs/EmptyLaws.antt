@@ -16,10 +16,10 @@ use Rattle.squares.specs.Bounds.{Allowed}
 use Rattle.squares.specs.Squares.{squares}
 use Rattle.position.specs.declared.Position.{Position}
 use Rattle.model.specs.Model.{Opening, Town, emptied, after}
-use Rattle.tables.specs.Tables.{Derived, stands, placed, rosterHas, townOf}
+use Rattle.tables.specs.Tables.{Derived, tally, stands, placed, rosterHas, townOf}
 use Rattle.tables.specs.RecordLaws.{zone-out, car-out, roster-has}
 use Rattle.tables.specs.Sizes.{Roomy}
-use Rattle.tables.specs.Derived.{on, keysTo, free, derivedOf}
+use Rattle.tables.specs.Derived.{on, keysTo, free, tallyOf, derivedOf}
 use Rattle.tables.specs.Sound.{Sound}
 use Rattle.tables.specs.CheckLaws.{→sized}
 use Rattle.tables.specs.Steps.{emptyTown}
@@ -33,8 +33,8 @@ map-same : {A : Type 0} (f : ℕ → A) (v : A) (l : List ℕ) → ((x : ℕ) �
 map-same f v [] h = refl
 map-same f v (x ∷ l) h = rw (h x, map-same f v l h)
 
-derived-same : {a a′ b b′ c c′ : List ℕ} → a ≡ a′ → b ≡ b′ → c ≡ c′ → _≡_ {A = Derived} (record { starts = a; entries = b; rosters = c }) (record { starts = a′; entries = b′; rosters = c′ })
-derived-same e f g = rw (e, f, g)
+derived-same : {a a′ b b′ c c′ d d′ : List ℕ} → a ≡ a′ → b ≡ b′ → c ≡ c′ → d ≡ d′ → _≡_ {A = Derived} (record { starts = a; entries = b; rosters = c; tallies = d }) (record { starts = a′; entries = b′; rosters = c′; tallies = d′ })
+derived-same e f g h = rw (e, f, g, h)
 
 abbrev town : Opening → (ℕ → Option Rect) → (ℕ → Option Position) → Town
 town o zone car = record { opening = o; zone = zone; car = car }
@@ -67,6 +67,12 @@ module _ (o : Opening) where
   rosters-empty : replicate (o .zones * o .cars) 0 ≡ derivedOf (emptyTown o) .rosters
   rosters-empty = sym (map-same (λ (i : ℕ). bit (rosterHas (emptyTown o) (i / o .cars) (i % o .cars))) 0 (span 0 (o .zones * o .cars)) (λ i. ap bit (no-cars (i / o .cars) (i % o .cars))) ∙ ap (λ (n : ℕ). replicate n 0) (length-span 0 (o .zones * o .cars)))
 
+  tallies-empty : replicate (o .zones * tally) 0 ≡ derivedOf (emptyTown o) .tallies
+  unfolding rosterHas
+  tallies-empty =
+      let none : (z : ℕ) → tallyOf (emptyTown o) z ≡ 0 ∷ [] = λ z. ap (λ (l : List ℕ). length l ∷ []) (keep-none (rosterHas (emptyTown o) z) (span 0 (o .cars)) (λ c m. no-cars z c)) in
+      sym (map-same (λ (i : ℕ). getD (tallyOf (emptyTown o) (i / tally)) (i % tally) 0) 0 (span 0 (o .zones * tally)) (λ i. ap (λ (l : List ℕ). getD l (i % tally) 0) (none (i / tally)) ∙ zeros 1 (i % tally)) ∙ ap (λ (n : ℕ). replicate n 0) (length-span 0 (o .zones * tally)))
+
   pub town-empty : (m : Town) → townOf (emptyTown o) ≡ after (emptied o) m
   town-empty m = ap₂ (λ (zone : ℕ → Option Rect) (car : ℕ → Option Position). town o zone car) (fun-ext (λ z. zone-out (emptyTown o) z (none-stands z))) (fun-ext (λ c. car-out (emptyTown o) c (none-placed c)))
 
@@ -83,9 +89,10 @@ module _ (o : Opening) where
         starts = length-replicate (squares (o .shape) + 1) 0;
         entries = length-replicate (o .entries) free;
         rosters = length-replicate (o .zones * o .cars) 0;
+        tallies = length-replicate (o .zones * tally) 0;
       };
     });
     zones = λ z e. absurd (true-not-false _ e (none-stands z));
     cars = λ c e. absurd (true-not-false _ e (none-placed c));
-    derived = derived-same starts-empty entries-empty rosters-empty;
+    derived = derived-same starts-empty entries-empty rosters-empty tallies-empty;
   }

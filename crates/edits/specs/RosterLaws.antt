@@ -51,7 +51,7 @@ module _ (t : Tables) (size : Sized t) (z : ℕ) (within : z < zoneRoom t) (r : 
   pub has-with : (y c : ℕ) → rosterHas (zoned t (withZone (t .records .zones) z r)) y c ≡ holdsCar (after (zoneOn z r) (townOf t)) y c
   has-with = has-town (zoned t (withZone (t .records .zones) z r)) (after (zoneOn z r) (townOf t)) (town-zone-on t size z within r wide)
 
-  has-with-other : (y c : ℕ) → (y ≡ z → ⊥) → rosterHas (zoned t (withZone (t .records .zones) z r)) y c ≡ rosterHas t y c
+  pub has-with-other : (y c : ℕ) → (y ≡ z → ⊥) → rosterHas (zoned t (withZone (t .records .zones) z r)) y c ≡ rosterHas t y c
   unfolding rosterHas
   has-with-other y c f = has-with y c ∙ ap (hasBy (townOf t) c) (except-other z (some r) (zoneIn t) y f)
 
@@ -60,11 +60,11 @@ module _ (t : Tables) (z : ℕ) where
   has-without : (y c : ℕ) → rosterHas (zoned t (withoutZone (t .records .zones) z)) y c ≡ holdsCar (after (zoneOff z) (townOf t)) y c
   has-without = has-town (zoned t (withoutZone (t .records .zones) z)) (after (zoneOff z) (townOf t)) (town-zone-off t z)
 
-  has-without-other : (y c : ℕ) → (y ≡ z → ⊥) → rosterHas (zoned t (withoutZone (t .records .zones) z)) y c ≡ rosterHas t y c
+  pub has-without-other : (y c : ℕ) → (y ≡ z → ⊥) → rosterHas (zoned t (withoutZone (t .records .zones) z)) y c ≡ rosterHas t y c
   unfolding rosterHas
   has-without-other y c f = has-without y c ∙ ap (hasBy (townOf t) c) (except-other z none (zoneIn t) y f)
 
-  has-without-own : (c : ℕ) → rosterHas (zoned t (withoutZone (t .records .zones) z)) z c ≡ false
+  pub has-without-own : (c : ℕ) → rosterHas (zoned t (withoutZone (t .records .zones) z)) z c ≡ false
   has-without-own c = has-without z c ∙ ap (hasBy (townOf t) c) (except-own z none (zoneIn t)) ∙ has-none (townOf t) c
 
 -- ---- the rosters

@@ -1,4 +1,5 @@
 -- Laws of a car's bytes set in the rows of the zones it enters and leaves: the rosters are then what the records give.
+-- With them and the counts moved, the tables are those of the step.
 use Prim.Native.Nat.{ℕ, _+_, _*_, _/_, _%_, _<_}
 use mathlib.Core.Path.{_≡_, refl, ap, ap₂, sym, _∙_}
 use mathlib.Core.Logic.{⊎-elim}
@@ -12,20 +13,23 @@ use lib.ListN.{length, getD, set, length-set}
 use lib.Seq.{getD-set-same, getD-set-other, ext-getD}
 use Rattle.order.specs.Order.{upto, keep}
 use Rattle.order.specs.Sums.{bit}
-use Rattle.order.specs.TestLaws.{true-or-false, true-not-false, and→}
-use Rattle.order.specs.KeepLaws.{→span, keep→, →keep, keep-ext, keep-none}
+use Rattle.order.specs.TestLaws.{true-or-false, true-not-false}
+use Rattle.order.specs.KeepLaws.{keep-ext, keep-none}
 use Rattle.position.specs.declared.Position.{Position}
 use Rattle.position.specs.Answer.{columnOf, rowOf}
 use Rattle.model.specs.Model.{Town, holdsCar, carAt, carOff}
 use Rattle.tables.specs.Tables.{Tables, tables, shapeOf, zoneRoom, carRoom, zoneHolds, rosterHas}
 use Rattle.tables.specs.Sizes.{Sized}
-use Rattle.tables.specs.Derived.{rostersOf}
+use Rattle.tables.specs.Derived.{rostersOf, talliesOf}
 use Rattle.tables.specs.Sound.{Sound}
 use Rattle.tables.specs.Steps.{fresh, parked, withSpot, step}
 use Rattle.tables.specs.CheckLaws.{size-of}
-use Rattle.tables.specs.RecordLaws.{rosters-fresh}
+use Rattle.tables.specs.RecordLaws.{rosters-fresh, tallies-fresh}
 use Rattle.rosters.specs.Rosters.{stamped}
+use Rattle.tallies.specs.Counts.{moved}
 use Rattle.edits.specs.RosterLaws.{byte-at, length-rosters}
+use Rattle.edits.specs.GainLaws.{gained, gained→, →gained}
+use Rattle.edits.specs.TallyLaws.{tallies-moved}
 use Rattle.edits.specs.TownLaws.{same-or-other, town-fresh}
 use Rattle.edits.specs.CarLaws.{report-own, report-other, report-keeps, leave-own, leave-other, leave-keeps}
 
@@ -62,14 +66,6 @@ stamped-there b (y ∷ zs) many c v z m h = ⊎-elim
 
 -- ---- tables with other cars, where car c alone differs
 
--- zones that have the car in the second tables and not in the first
-abbrev pub gained : Tables → Tables → ℕ → List ℕ
-gained t u c = keep (λ (z : ℕ). rosterHas u z c && not (rosterHas t z c)) (upto (zoneRoom t))
-
-flip : (b : Bool) → not b ≡ true → b ≡ false
-flip true e = absurd (true-not-false false e refl)
-flip false e = refl
-
 module _ (t : Tables) (cars : List ℕ) (spots : List Float) (size : Sized t) (c : ℕ) (there : c < carRoom t) (same : (z d : ℕ) → (d ≡ c → ⊥) → rosterHas (parked t cars spots) z d ≡ rosterHas t z d) where
   abbrev u : Tables
   u = parked t cars spots
@@ -101,15 +97,11 @@ module _ (t : Tables) (cars : List ℕ) (spots : List Float) (size : Sized t) (c
     within : z * carRoom t + c < zoneRoom t * carRoom t
     within = digits-lt g there
 
-    listed : (v w : Tables) → zoneRoom v ≡ zoneRoom t → rosterHas w z c ≡ true → rosterHas v z c ≡ false → List·Memᴰ z (gained v w c)
-    listed v w r e f = →keep (λ (y : ℕ). rosterHas w y c && not (rosterHas v y c)) (upto (zoneRoom v)) z (→span 0 (zoneRoom v) z (omega arith) (omega arith)) (rw (e, f))
-
     unlisted : (v w : Tables) → (rosterHas w z c ≡ true → rosterHas v z c ≡ false → ⊥) → (y : ℕ) → List·Memᴰ y (gained v w c) → z * carRoom t + c ≡ y * carRoom t + c → ⊥
     unlisted v w f y m e =
-        let a = keep→ (λ (x : ℕ). rosterHas w x c && not (rosterHas v x c)) (upto (zoneRoom v)) y m in
-        let b = and→ (rosterHas w y c) (not (rosterHas v y c)) (a .1) in
-        let q = at-zone y e in
-        f (ap (λ (x : ℕ). rosterHas w x c) (sym q) ∙ b .0) (ap (λ (x : ℕ). rosterHas v x c) (sym q) ∙ flip (rosterHas v y c) (b .1))
+        let a = gained→ v w c y m in
+        let q = sym (at-zone y e) in
+        f (ap (λ (x : ℕ). rosterHas w x c) q ∙ a .0) (ap (λ (x : ℕ). rosterHas v x c) q ∙ a .1)
 
     -- the car's own byte
     byte-own : getD after (z * carRoom t + c) 0 ≡ bit (rosterHas u z c)
@@ -118,10 +110,10 @@ module _ (t : Tables) (cars : List ℕ) (spots : List Float) (size : Sized t) (c
         stamped-apart came (gained u t c) (carRoom t) c 0 (z * carRoom t + c) (unlisted u t (λ a b. true-not-false (rosterHas u z c) e b))
         ∙ ⊎-elim
         (λ (f : rosterHas t z c ≡ true). stamped-apart (rostersOf t) (gained t u c) (carRoom t) c 1 (z * carRoom t + c) (unlisted t u (λ a b. true-not-false (rosterHas t z c) f b)) ∙ byte-at t z c g there ∙ ap bit (f ∙ sym e))
-        (λ (f : rosterHas t z c ≡ false). stamped-there (rostersOf t) (gained t u c) (carRoom t) c 1 z (listed t u refl e f) (omega (arith, within, length-rosters t)) ∙ ap bit (sym e))
+        (λ (f : rosterHas t z c ≡ false). stamped-there (rostersOf t) (gained t u c) (carRoom t) c 1 z (→gained t u c z g e f) (omega (arith, within, length-rosters t)) ∙ ap bit (sym e))
         (true-or-false (rosterHas t z c)))
         (λ (e : rosterHas u z c ≡ false). ⊎-elim
-        (λ (f : rosterHas t z c ≡ true). stamped-there came (gained u t c) (carRoom t) c 0 z (listed u t refl f e) (omega (arith, within, length-came)) ∙ ap bit (sym e))
+        (λ (f : rosterHas t z c ≡ true). stamped-there came (gained u t c) (carRoom t) c 0 z (→gained u t c z g f e) (omega (arith, within, length-came)) ∙ ap bit (sym e))
         (λ (f : rosterHas t z c ≡ false).
         stamped-apart came (gained u t c) (carRoom t) c 0 (z * carRoom t + c) (unlisted u t (λ a b. true-not-false (rosterHas t z c) a f))
         ∙ stamped-apart (rostersOf t) (gained t u c) (carRoom t) c 1 (z * carRoom t + c) (unlisted t u (λ a b. true-not-false (rosterHas u z c) a e))
@@ -147,8 +139,8 @@ unfolding rosterHas
 has-fresh u z d = ap (λ (m : Town). holdsCar m z d) (town-fresh u)
 
 module _ (t : Tables) (sound : Sound t) (c : ℕ) (there : c < carRoom t) where
-  -- the zones that a report enters and leaves have their bytes set
-  pub reported-is : (p : Position) (came gone : List ℕ) → came ≡ keep (λ (z : ℕ). zoneHolds t z (columnOf (shapeOf t) p) (rowOf (shapeOf t) p) && not (rosterHas t z c)) (upto (zoneRoom t)) → gone ≡ keep (λ (z : ℕ). rosterHas t z c && not (zoneHolds t z (columnOf (shapeOf t) p) (rowOf (shapeOf t) p))) (upto (zoneRoom t)) → tables (t .records .head) (t .records .zones) (set (t .records .cars) c 1) (withSpot (t .records .spots) c p) (t .derived .starts) (t .derived .entries) (stamped (stamped (t .derived .rosters) came (carRoom t) c 1) gone (carRoom t) c 0) ≡ step (carAt c p) t
+  -- the zones that a report enters and leaves have their bytes set and their counts moved
+  pub reported-is : (p : Position) (came gone : List ℕ) → came ≡ keep (λ (z : ℕ). zoneHolds t z (columnOf (shapeOf t) p) (rowOf (shapeOf t) p) && not (rosterHas t z c)) (upto (zoneRoom t)) → gone ≡ keep (λ (z : ℕ). rosterHas t z c && not (zoneHolds t z (columnOf (shapeOf t) p) (rowOf (shapeOf t) p))) (upto (zoneRoom t)) → tables (t .records .head) (t .records .zones) (set (t .records .cars) c 1) (withSpot (t .records .spots) c p) (t .derived .starts) (t .derived .entries) (stamped (stamped (t .derived .rosters) came (carRoom t) c 1) gone (carRoom t) c 0) (moved (moved (t .derived .tallies) came 1) gone 4294967295) ≡ step (carAt c p) t
   reported-is p came gone e f =
       let cars = set (t .records .cars) c 1 in
       let spots = withSpot (t .records .spots) c p in
@@ -156,21 +148,25 @@ module _ (t : Tables) (sound : Sound t) (c : ℕ) (there : c < carRoom t) where
       let own : (z : ℕ) → rosterHas u z c ≡ zoneHolds t z (columnOf (shapeOf t) p) (rowOf (shapeOf t) p) = λ (z : ℕ). sym (has-fresh u z c) ∙ report-own t c p z sound there in
       let e′ : came ≡ gained t u c = e ∙ keep-ext _ (λ (z : ℕ). rosterHas u z c && not (rosterHas t z c)) (upto (zoneRoom t)) (λ z m. ap (λ (b : Bool). b && not (rosterHas t z c)) (sym (own z))) in
       let f′ : gone ≡ gained u t c = f ∙ keep-ext _ (λ (z : ℕ). rosterHas t z c && not (rosterHas u z c)) (upto (zoneRoom t)) (λ z m. ap (λ (b : Bool). rosterHas t z c && not b) (sym (own z))) in
-      let bytes = ap₂ (λ (a b : List ℕ). stamped (stamped (t .derived .rosters) a (carRoom t) c 1) b (carRoom t) c 0) e′ f′ ∙ ap (λ (b : List ℕ). stamped (stamped b (gained t u c) (carRoom t) c 1) (gained u t c) (carRoom t) c 0) (rosters-fresh sound) ∙ rosters-stamped t cars spots (size-of sound) c there (λ z d g. sym (has-fresh u z d) ∙ report-other t c p z sound there d g) in
+      let same : (z d : ℕ) → (d ≡ c → ⊥) → rosterHas u z d ≡ rosterHas t z d = λ z d g. sym (has-fresh u z d) ∙ report-other t c p z sound there d g in
+      let bytes = ap₂ (λ (a b : List ℕ). stamped (stamped (t .derived .rosters) a (carRoom t) c 1) b (carRoom t) c 0) e′ f′ ∙ ap (λ (b : List ℕ). stamped (stamped b (gained t u c) (carRoom t) c 1) (gained u t c) (carRoom t) c 0) (rosters-fresh sound) ∙ rosters-stamped t cars spots (size-of sound) c there same in
+      let counts = ap₂ (λ (a b : List ℕ). moved (moved (t .derived .tallies) a 1) b 4294967295) e′ f′ ∙ ap (λ (b : List ℕ). moved (moved b (gained t u c) 1) (gained u t c) 4294967295) (tallies-fresh sound) ∙ tallies-moved t cars spots (size-of sound) c there same in
       let keeps = report-keeps t sound c p in
-      ap (λ (b : List ℕ). tables (t .records .head) (t .records .zones) cars spots (t .derived .starts) (t .derived .entries) b) bytes
-      ∙ ap₂ (λ (a b : List ℕ). tables (t .records .head) (t .records .zones) cars spots a b (rostersOf u)) (sym (keeps .starts)) (sym (keeps .entries))
+      ap₂ (λ (b n : List ℕ). tables (t .records .head) (t .records .zones) cars spots (t .derived .starts) (t .derived .entries) b n) bytes counts
+      ∙ ap₂ (λ (a b : List ℕ). tables (t .records .head) (t .records .zones) cars spots a b (rostersOf u) (talliesOf u)) (sym (keeps .starts)) (sym (keeps .entries))
 
-  -- the zones that a leave takes the car from have their bytes cleared
-  pub departed-is : (gone : List ℕ) → gone ≡ keep (λ (z : ℕ). rosterHas t z c) (upto (zoneRoom t)) → tables (t .records .head) (t .records .zones) (set (t .records .cars) c 0) (t .records .spots) (t .derived .starts) (t .derived .entries) (stamped (t .derived .rosters) gone (carRoom t) c 0) ≡ step (carOff c) t
-  unfolding stamped
+  -- the zones that a leave takes the car from have their bytes cleared and their counts moved
+  pub departed-is : (gone : List ℕ) → gone ≡ keep (λ (z : ℕ). rosterHas t z c) (upto (zoneRoom t)) → tables (t .records .head) (t .records .zones) (set (t .records .cars) c 0) (t .records .spots) (t .derived .starts) (t .derived .entries) (stamped (t .derived .rosters) gone (carRoom t) c 0) (moved (t .derived .tallies) gone 4294967295) ≡ step (carOff c) t
+  unfolding stamped moved
   departed-is gone f =
       let cars = set (t .records .cars) c 0 in
       let u = parked t cars (t .records .spots) in
       let own : (z : ℕ) → rosterHas u z c ≡ false = λ (z : ℕ). sym (has-fresh u z c) ∙ leave-own t c z in
       let none : gained t u c ≡ [] = keep-none (λ (z : ℕ). rosterHas u z c && not (rosterHas t z c)) (upto (zoneRoom t)) (λ z m. ap (λ (b : Bool). b && not (rosterHas t z c)) (own z)) in
       let f′ : gone ≡ gained u t c = f ∙ keep-ext (λ (z : ℕ). rosterHas t z c) (λ (z : ℕ). rosterHas t z c && not (rosterHas u z c)) (upto (zoneRoom t)) (λ z m. sym (ap (λ (b : Bool). rosterHas t z c && not b) (own z) ∙ and-true (rosterHas t z c))) in
-      let bytes = ap₂ (λ (a b : List ℕ). stamped a b (carRoom t) c 0) (rosters-fresh sound) f′ ∙ ap (λ (a : List ℕ). stamped (stamped (rostersOf t) a (carRoom t) c 1) (gained u t c) (carRoom t) c 0) (sym none) ∙ rosters-stamped t cars (t .records .spots) (size-of sound) c there (λ z d g. sym (has-fresh u z d) ∙ leave-other t c z d g) in
+      let same : (z d : ℕ) → (d ≡ c → ⊥) → rosterHas u z d ≡ rosterHas t z d = λ z d g. sym (has-fresh u z d) ∙ leave-other t c z d g in
+      let bytes = ap₂ (λ (a b : List ℕ). stamped a b (carRoom t) c 0) (rosters-fresh sound) f′ ∙ ap (λ (a : List ℕ). stamped (stamped (rostersOf t) a (carRoom t) c 1) (gained u t c) (carRoom t) c 0) (sym none) ∙ rosters-stamped t cars (t .records .spots) (size-of sound) c there same in
+      let counts = ap₂ (λ (a b : List ℕ). moved a b 4294967295) (tallies-fresh sound) f′ ∙ ap (λ (a : List ℕ). moved (moved (talliesOf t) a 1) (gained u t c) 4294967295) (sym none) ∙ tallies-moved t cars (t .records .spots) (size-of sound) c there same in
       let keeps = leave-keeps t sound c in
-      ap (λ (b : List ℕ). tables (t .records .head) (t .records .zones) cars (t .records .spots) (t .derived .starts) (t .derived .entries) b) bytes
-      ∙ ap₂ (λ (a b : List ℕ). tables (t .records .head) (t .records .zones) cars (t .records .spots) a b (rostersOf u)) (sym (keeps .starts)) (sym (keeps .entries))
+      ap₂ (λ (b n : List ℕ). tables (t .records .head) (t .records .zones) cars (t .records .spots) (t .derived .starts) (t .derived .entries) b n) bytes counts
+      ∙ ap₂ (λ (a b : List ℕ). tables (t .records .head) (t .records .zones) cars (t .records .spots) a b (rostersOf u) (talliesOf u)) (sym (keeps .starts)) (sym (keeps .entries))

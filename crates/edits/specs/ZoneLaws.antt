@@ -133,4 +133,4 @@ module _ (t : Tables) (z : ℕ) (key : ℕ) where
 pub sized-zoned : (t : Tables) (zones : List ℕ) → Sized t → length zones ≡ length (t .records .zones) → Sized (zoned t zones)
 sized-zoned t zones h e =
     let l = h .lengths in
-    record { shape = h .shape; room = h .room; lengths = record { head = l .head; zones = e ∙ l .zones; cars = l .cars; spots = l .spots; starts = l .starts; entries = l .entries; rosters = l .rosters } }
+    record { shape = h .shape; room = h .room; lengths = record { head = l .head; zones = e ∙ l .zones; cars = l .cars; spots = l .spots; starts = l .starts; entries = l .entries; rosters = l .rosters; tallies = l .tallies } }

@@ -30,5 +30,5 @@ lengthsSaid es = record { own = true; asked = alike (said es .opening) }
 
 -- the tables that it says, to the byte; the first call is an open, which asks nothing of what was there
 unfoldable pub replayed : List Event → Tables
-replayed [] = tables [] [] [] [] [] [] []
+replayed [] = tables [] [] [] [] [] [] [] []
 replayed (e ∷ es) = step (change e) (replayed es)

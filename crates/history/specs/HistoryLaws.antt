@@ -13,8 +13,8 @@ use Rattle.squares.specs.Refusals.{first, Answer, refuse, accept, result}
 use Rattle.squares.specs.RefusalLaws.{by-refusal, clear}
 use Rattle.model.specs.declared.answers.Opened.{Opened}
 use Rattle.model.specs.Answers.{Values, numbers}
-use Rattle.model.specs.Model.{Opening, Town, known, Call, opening, adding, removing, reporting, leaving, searching, askRoster, askWhere, askSoundness, Event, Change, emptied, zoneOn, zoneOff, carAt, carOff, nothing, changeOf, changeBy, change, after, Lengths, meaning}
-use Rattle.tables.specs.Tables.{Tables, shapeOf, zoneRoom, carRoom, entryRoom, zoneIn, townOf, openingIn}
+use Rattle.model.specs.Model.{Opening, Town, known, Call, opening, adding, removing, reporting, leaving, searching, askRoster, askCount, askWhere, askSoundness, Event, Change, emptied, zoneOn, zoneOff, carAt, carOff, nothing, changeOf, changeBy, change, after, Lengths, meaning}
+use Rattle.tables.specs.Tables.{Tables, tally, shapeOf, zoneRoom, carRoom, entryRoom, zoneIn, townOf, openingIn}
 use Rattle.tables.specs.Check.{long, sized}
 use Rattle.tables.specs.Sizes.{Long}
 use Rattle.tables.specs.CheckLaws.{roomy→, long→, →long, →sized, size-of}
@@ -71,6 +71,7 @@ module _ (t : Tables) (sound : Sound t) where
   next-accepted (leaving c left) none late = record { is = refl; sound = leave-sound t sound c; town = town-car-off t c }
   next-accepted (searching p found) none late = next-same
   next-accepted (askRoster z inside) none late = next-same
+  next-accepted (askCount z) none late = next-same
   next-accepted (askWhere c) none late = next-same
   next-accepted askSoundness none late = next-same
 
@@ -126,6 +127,7 @@ long-alike o t sound = both-ways (long (o .shape) (o .zones) (o .cars) (o .entri
       starts = l .starts ∙ ap (λ (n : ℕ). n + 1) (eqb-true (squares (shapeOf t)) (squares (o .shape)) (a .0));
       entries = l .entries ∙ eqb-true (entryRoom t) (o .entries) (c .1);
       rosters = l .rosters ∙ ap₂ _*_ zs cs;
+      tallies = l .tallies ∙ ap (λ (n : ℕ). n * tally) zs;
     }))
   where
     same : Long (o .shape) (o .zones) (o .cars) (o .entries) t → alike (openingIn t) o ≡ true

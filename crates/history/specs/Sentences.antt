@@ -2,20 +2,20 @@
 use Prim.Native.Nat.{ℕ, suc, _+_, _*_, _<_, _≤_}
 use mathlib.Core.Path.{_≡_, refl, ap, ap₂, sym, subst, _∙_}
 use mathlib.Core.Logic.{⊎-elim}
-use mathlib.Core.Bool.{true}
+use mathlib.Core.Bool.{true, false}
 use mathlib.Core.List.{List, [], _∷_}
 use mathlib.Core.Option.{Option, some}
 use native.Mathlib.Omega.{arith}
 use lib.Dec.{ltb}
 use lib.ListN.{length, getD, List·getD-eq-default}
-use borrow.Author.Tests.{le-leb, lt-ltb}
+use borrow.Author.Tests.{le-leb, lt-ltb, ltb-true, ne-eqb}
 use Rattle.order.specs.Order.{over}
 use Rattle.order.specs.Sums.{bit}
 use Rattle.order.specs.TestLaws.{lt-or-le, true-not-false}
 use Rattle.squares.specs.declared.shape.Rect.{Rect}
 use Rattle.cuts.specs.Cut.{cut}
 use Rattle.squares.specs.Refusals.{first, Answer, refuse, accept, Result, refusing, giving, result}
-use Rattle.squares.specs.RefusalLaws.{stops}
+use Rattle.squares.specs.RefusalLaws.{stops, clear, by-refusal}
 use Rattle.position.specs.declared.Position.{Position}
 use Rattle.model.specs.declared.answers.Opened.{Opened}
 use Rattle.model.specs.declared.answers.Added.{Added}
@@ -23,20 +23,23 @@ use Rattle.model.specs.declared.answers.Reported.{Reported}
 use Rattle.model.specs.declared.answers.Left.{Left}
 use Rattle.model.specs.declared.answers.Searched.{Searched}
 use Rattle.model.specs.declared.answers.RosterOf.{RosterOf}
+use Rattle.model.specs.declared.answers.CountOf.{CountOf}
 use Rattle.model.specs.declared.answers.WhereIs.{WhereIs}
 use Rattle.model.specs.declared.answers.SoundnessOf.{SoundnessOf}
-use Rattle.model.specs.Answers.{Values, numbers, spot, addedIs, reportedIs, leftIs, searchedIs, rosterIs, whereIs, soundnessIs}
-use Rattle.model.specs.AnswerLaws.{added-same, reported-same, left-same, searched-same, roster-same, where-same, soundness-same}
-use Rattle.model.specs.Model.{Opening, Town, known, holdsSpot, holdsCar, roster, zonesAt, zonesOf, zonesEntered, zonesLeft, looked, Call, opening, adding, reporting, leaving, searching, askRoster, askWhere, askSoundness, Event, zoneOn, carAt, change, after, Lengths, meaning, refusal, refused, outcome}
-use Rattle.model.specs.RosterLaws.{report-same, report-roster}
-use Rattle.tables.specs.Tables.{Tables, zoneRoom, carRoom, stands, placed, zoneIn, carIn, townOf, rosterHas}
+use Rattle.model.specs.Answers.{Values, numbers, spot, addedIs, reportedIs, leftIs, searchedIs, rosterIs, countIs, whereIs, soundnessIs}
+use Rattle.model.specs.AnswerLaws.{added-same, reported-same, left-same, searched-same, roster-same, count-same, where-same, soundness-same}
+use Rattle.model.specs.Model.{Opening, Town, known, holdsSpot, holdsCar, roster, zonesAt, zonesOf, zonesEntered, zonesLeft, looked, Call, opening, adding, reporting, leaving, searching, askRoster, askCount, askWhere, askSoundness, Event, zoneOn, carAt, change, after, Lengths, meaning, refusal, refused, outcome}
+use Rattle.model.specs.RosterLaws.{report-other, report-own, report-same, report-roster}
+use Rattle.tables.specs.Tables.{Tables, tally, zoneRoom, carRoom, stands, placed, zoneIn, carIn, townOf, rosterHas}
 use Rattle.tables.specs.RecordLaws.{stands-known, placed-known}
 use Rattle.tables.specs.Sound.{Sound}
 use Rattle.tables.specs.RunLaws.{stands-below}
 use Rattle.tables.specs.RowLaws.{roster-byte}
+use Rattle.tables.specs.TallyLaws.{count-sound}
 use Rattle.tables.specs.Lent.{both}
 use Rattle.tables.specs.CheckLaws.{size-of}
 use Rattle.tables.specs.Steps.{emptyTown, step}
+use Rattle.edits.specs.SumLaws.{count-one}
 use Rattle.promises.specs.Promise.{lengthsIn, means, bars, Keeps}
 use Rattle.promises.specs.Events.{event, opened}
 use Rattle.promises.specs.PromiseLaws.{outcomeIn, keeps-done, keeps-told, keeps-unique, trusts-sound, some-kept}
@@ -103,6 +106,11 @@ module _ {es : List Event} {t : Tables} (h : History es t) where
       let a = accepted-true (event (askRoster z b) (b′ ∷ []) (rosterIs answer)) t k q in
       (roster-same answer (RosterOf.Cars (length (roster (said es) z))) (ap (λ (r : Result Values). r .answer) a), ap (buffer 0) a)
 
+  -- a count is how many cars' last accepted reports lie in the zone
+  pub count-true : {z : ℕ} {answer : CountOf} → Keeps (both t t) (event (askCount z) [] (countIs answer)) → refusal (lengthsSaid es) (said es) (askCount z) ≡ 0 → answer ≡ CountOf.Cars (length (roster (said es) z))
+  unfolding meaning
+  count-true {z} {answer} k q = count-same answer (CountOf.Cars (length (roster (said es) z))) (ap (λ (r : Result Values). r .answer) (accepted-true (event (askCount z) [] (countIs answer)) t k q))
+
   -- a search finds the zones that stand and hold the point
   pub search-true : {p : Position} {b b′ : List ℕ} {answer : Searched} → Keeps (both t t) (event (searching p b) (b′ ∷ []) (searchedIs answer)) → refusal (lengthsSaid es) (said es) (searching p b) ≡ 0 → (answer ≡ Searched.Found (said es .opening .shape .k + 1) (length (zonesAt (said es) p))) × (b′ ≡ over (zonesAt (said es) p) b)
   unfolding meaning
@@ -155,6 +163,31 @@ module _ {es : List Event} {t : Tables} (h : History es t) where
         ∙ ap bit (ap (λ (m : Town). holdsCar m z d) (n .town) ∙ report-same (townOf t) c z p (subst (λ (m : Town). holdsCar m z c ≡ holdsSpot m z p) (sym town-after) same) d)
         ∙ sym (roster-byte t sound-after z d there below)
 
+  -- ---- the counts
+
+  -- the stored one is how many cars' last accepted reports lie in the zone
+  pub count-after : (z : ℕ) → z < zoneRoom t → getD (t .derived .tallies) (z * tally) 0 ≡ length (roster (said es) z)
+  count-after z there = count-sound t sound-after z there ∙ ap (λ (m : Town). length (roster m z)) town-after
+
+  -- which ones an accepted report changes: one more for a zone that it enters, one less for a zone that it leaves, no other
+  module _ {t′ : Tables} {c : ℕ} {p : Position} {buffers : List (List ℕ)} {e l : List ℕ} {v : Values} (k : Keeps (both t t′) (event (reporting c p e l) buffers (accept v))) (z : ℕ) where
+    reporter : c < said es .opening .cars
+    unfolding meaning
+    reporter = by-refusal (bars t (reporting c p e l))
+        (λ none. omega (arith, ltb-true c (carRoom t) (clear (means t (reporting c p e l) .checks) refl none .1 .0), ap (λ (m : Town). m .opening .cars) town-after))
+        (λ f. let d : _≡_ {A = Answer Values} (accept v) (refuse (bars t (reporting c p e l))) = ap (λ (x : Event). x .result .answer) (k .refuses f .0) in let n : _≡_ {A = ℕ} 0 1 = cc in absurd (omega arith))
+
+    pub count-entered : holdsCar (said es) z c ≡ false → holdsSpot (said es) z p ≡ true → length (roster (said (event (reporting c p e l) buffers (accept v) ∷ es)) z) ≡ length (roster (said es) z) + 1
+    unfolding said
+    count-entered off on = count-one (holdsCar (after (carAt c p) (said es)) z) (holdsCar (said es) z) (said es .opening .cars) c reporter (λ d f. report-other (said es) c z p d (ne-eqb d c f)) (report-own (said es) c z p ∙ on) off
+
+    pub count-left : holdsCar (said es) z c ≡ true → holdsSpot (said es) z p ≡ false → length (roster (said es) z) ≡ length (roster (said (event (reporting c p e l) buffers (accept v) ∷ es)) z) + 1
+    unfolding said
+    count-left on off = count-one (holdsCar (said es) z) (holdsCar (after (carAt c p) (said es)) z) (said es .opening .cars) c reporter (λ d f. sym (report-other (said es) c z p d (ne-eqb d c f))) on (report-own (said es) c z p ∙ off)
+
+    pub count-kept : holdsCar (said es) z c ≡ holdsSpot (said es) z p → length (roster (said (event (reporting c p e l) buffers (accept v) ∷ es)) z) ≡ length (roster (said es) z)
+    count-kept same = ap length (roster-kept k z same)
+
   -- ---- what stands is within the capacities
 
   pub car-there : {c : ℕ} {p : Position} → said es .car c ≡ some p → c < said es .opening .cars
@@ -184,6 +217,11 @@ module _ {es : List Event} {t : Tables} (h : History es t) where
   pub roster-accepted : (z : ℕ) {r : Rect} (b : List ℕ) → said es .zone z ≡ some r → said es .opening .cars ≤ length b → refusal (lengthsSaid es) (said es) (askRoster z b) ≡ 0
   unfolding meaning first
   roster-accepted z b e l = rw (lt-ltb z (said es .opening .zones) (zone-there e), e, le-leb (said es .opening .cars) (length b) l)
+
+  -- and so is its count told
+  pub count-accepted : (z : ℕ) {r : Rect} → said es .zone z ≡ some r → refusal (lengthsSaid es) (said es) (askCount z) ≡ 0
+  unfolding meaning first
+  count-accepted z e = rw (lt-ltb z (said es .opening .zones) (zone-there e), e)
 
 -- ---- histories
 

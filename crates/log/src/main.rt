@@ -4,6 +4,7 @@ use libc::STDOUT_FILENO;
 use pieces::Filling;
 use replay::answer_end;
 use replay::answer_piece;
+use tables::TALLY;
 ghost use Prim.Native.Nat.{_<_, _≤_};
 ghost use mathlib.Core.Path.{_≡_};
 ghost use lib.ListN.{length};
@@ -115,12 +116,13 @@ fn carry(
     starts: &mut [u32],
     entries: &mut [u32],
     rosters: &mut [u8],
+    tallies: &mut [u32],
     piece: &[u8],
     held: &mut [u8],
     out: &mut [u8],
 ) -> bool
-    requires { ⌜ Carries (given head zones cars spots starts entries rosters) (now held) (now out) ⌝ }
-    ensures { λ r. ⌜ Carried (lent head zones cars spots starts entries rosters) (now (piece .entry)) (now (held .entry)) (now (held .exit)) (now (out .exit)) r ⌝ }
+    requires { ⌜ Carries (given head zones cars spots starts entries rosters tallies) (now held) (now out) ⌝ }
+    ensures { λ r. ⌜ Carried (lent head zones cars spots starts entries rosters tallies) (now (piece .entry)) (now (held .entry)) (now (held .exit)) (now (out .exit)) r ⌝ }
 {
     let mut at = 0;
     let mut read = piece.len();
@@ -133,6 +135,7 @@ fn carry(
             starts,
             entries,
             rosters,
+            tallies,
             &piece[at..],
             held,
             out,
@@ -204,6 +207,7 @@ fn main() {
     let mut starts = [0u32; 5462];
     let mut entries = [0u32; 2048];
     let mut rosters = [0u8; 1024];
+    let mut tallies = [0u32; 16 * TALLY];
     let mut piece = [0u8; 65536];
     let mut held = [0u8; 82];
     let mut out = [0u8; 65536];
@@ -220,6 +224,7 @@ fn main() {
             &mut starts,
             &mut entries,
             &mut rosters,
+            &mut tallies,
             &piece[..n],
             &mut held,
             &mut out,
@@ -239,6 +244,7 @@ fn main() {
         &mut starts,
         &mut entries,
         &mut rosters,
+        &mut tallies,
         &mut held,
         &mut out,
     );

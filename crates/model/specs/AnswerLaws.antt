@@ -10,9 +10,10 @@ use Rattle.model.specs.declared.answers.Reported.{Reported}
 use Rattle.model.specs.declared.answers.Left.{Left}
 use Rattle.model.specs.declared.answers.Searched.{Searched}
 use Rattle.model.specs.declared.answers.RosterOf.{RosterOf}
+use Rattle.model.specs.declared.answers.CountOf.{CountOf}
 use Rattle.model.specs.declared.answers.WhereIs.{WhereIs}
 use Rattle.model.specs.declared.answers.SoundnessOf.{SoundnessOf}
-use Rattle.model.specs.Answers.{Values, openedIs, addedIs, removedIs, reportedIs, leftIs, searchedIs, rosterIs, whereIs, soundnessIs}
+use Rattle.model.specs.Answers.{Values, openedIs, addedIs, removedIs, reportedIs, leftIs, searchedIs, rosterIs, countIs, whereIs, soundnessIs}
 
 pub opened-same : (a b : Opened) → openedIs a ≡ openedIs b → a ≡ b
 opened-same (Opened.Refused n) (Opened.Refused m) e = cc
@@ -55,6 +56,12 @@ roster-same (RosterOf.Refused n) (RosterOf.Refused m) e = cc
 roster-same (RosterOf.Refused n) (RosterOf.Cars i) e = cc
 roster-same (RosterOf.Cars i) (RosterOf.Refused m) e = cc
 roster-same (RosterOf.Cars i) (RosterOf.Cars j) e = cc
+
+pub count-same : (a b : CountOf) → countIs a ≡ countIs b → a ≡ b
+count-same (CountOf.Refused n) (CountOf.Refused m) e = cc
+count-same (CountOf.Refused n) (CountOf.Cars i) e = cc
+count-same (CountOf.Cars i) (CountOf.Refused m) e = cc
+count-same (CountOf.Cars i) (CountOf.Cars j) e = cc
 
 pub where-same : (a b : WhereIs) → whereIs a ≡ whereIs b → a ≡ b
 where-same (WhereIs.Refused n) (WhereIs.Refused m) e = cc

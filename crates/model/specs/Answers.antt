@@ -11,6 +11,7 @@ use Rattle.model.specs.declared.answers.Reported.{Reported}
 use Rattle.model.specs.declared.answers.Left.{Left}
 use Rattle.model.specs.declared.answers.Searched.{Searched}
 use Rattle.model.specs.declared.answers.RosterOf.{RosterOf}
+use Rattle.model.specs.declared.answers.CountOf.{CountOf}
 use Rattle.model.specs.declared.answers.WhereIs.{WhereIs}
 use Rattle.model.specs.declared.answers.SoundnessOf.{SoundnessOf}
 
@@ -51,6 +52,11 @@ searchedIs (Searched.Found squares zones) = accept (numbers (squares ∷ zones �
 abbrev pub rosterIs : RosterOf → Answer Values
 rosterIs (RosterOf.Refused n) = refuse n
 rosterIs (RosterOf.Cars cars) = accept (numbers (cars ∷ []))
+
+-- cars in the zone
+abbrev pub countIs : CountOf → Answer Values
+countIs (CountOf.Refused n) = refuse n
+countIs (CountOf.Cars cars) = accept (numbers (cars ∷ []))
 
 abbrev pub whereIs : WhereIs → Answer Values
 whereIs (WhereIs.Refused n) = refuse n

@@ -99,6 +99,7 @@ pub data Call : Type 0 where
   leaving : (c : ℕ) (left : List ℕ) → Call
   searching : (p : Position) (found : List ℕ) → Call
   askRoster : (z : ℕ) (inside : List ℕ) → Call
+  askCount : (z : ℕ) → Call
   askWhere : (c : ℕ) → Call
   askSoundness : Call
 
@@ -126,6 +127,7 @@ changeOf (reporting c p entered left) = carAt c p
 changeOf (leaving c left) = carOff c
 changeOf (searching p found) = nothing
 changeOf (askRoster z inside) = nothing
+changeOf (askCount z) = nothing
 changeOf (askWhere c) = nothing
 changeOf askSoundness = nothing
 
@@ -228,6 +230,13 @@ meaning l m (askRoster z inside) = record {
   checks = (l .own, 3) ∷ (ltb z (m .opening .zones), 4) ∷ (known (m .zone z), 7) ∷ (leb (m .opening .cars) (length inside), 11) ∷ [];
   late = [];
   writes = (roster m z, inside) ∷ [];
+  gives = λ sound. numbers (length (roster m z) ∷ []);
+  trusts = gap;
+}
+meaning l m (askCount z) = record {
+  checks = (l .own, 3) ∷ (ltb z (m .opening .zones), 4) ∷ (known (m .zone z), 7) ∷ [];
+  late = [];
+  writes = [];
   gives = λ sound. numbers (length (roster m z) ∷ []);
   trusts = gap;
 }

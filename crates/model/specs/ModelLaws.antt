@@ -3,7 +3,7 @@ use Prim.Native.Nat.{ℕ}
 use mathlib.Core.Path.{_≡_, refl}
 use mathlib.Core.Bool.{true, false}
 use Rattle.squares.specs.RefusalLaws.{numbered}
-use Rattle.model.specs.Model.{Town, Call, opening, adding, removing, reporting, leaving, searching, askRoster, askWhere, askSoundness, Lengths, Gap, verdict, meaning}
+use Rattle.model.specs.Model.{Town, Call, opening, adding, removing, reporting, leaving, searching, askRoster, askCount, askWhere, askSoundness, Lengths, Gap, verdict, meaning}
 
 module _ (l : Lengths) (m : Town) where
   pub checks-numbered : (call : Call) → numbered (meaning l m call .checks) ≡ true
@@ -15,6 +15,7 @@ module _ (l : Lengths) (m : Town) where
   checks-numbered (leaving c left) = refl
   checks-numbered (searching p found) = refl
   checks-numbered (askRoster z inside) = refl
+  checks-numbered (askCount z) = refl
   checks-numbered (askWhere c) = refl
   checks-numbered askSoundness = refl
 
@@ -27,5 +28,6 @@ module _ (l : Lengths) (m : Town) where
   steady (leaving c left) f = refl
   steady (searching p found) f = refl
   steady (askRoster z inside) f = refl
+  steady (askCount z) f = refl
   steady (askWhere c) f = refl
   steady askSoundness f = absurd (f refl)

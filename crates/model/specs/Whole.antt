@@ -17,7 +17,7 @@ use Rattle.position.specs.declared.Position.{Position}
 use Rattle.position.specs.Cell.{whole, inRange, onMap, cellOf}
 use Rattle.position.specs.Answer.{onTown, columnOf, rowOf}
 use Rattle.model.specs.Answers.{Values, numbers}
-use Rattle.model.specs.Model.{Opening, Town, nowhere, Call, opening, adding, removing, reporting, leaving, askRoster, Event, change, after, Lengths, meaning, outcome}
+use Rattle.model.specs.Model.{Opening, Town, nowhere, Call, opening, adding, removing, reporting, leaving, askRoster, askCount, Event, change, after, Lengths, meaning, outcome}
 
 -- the log's capacities; tables with the lengths of the town
 unfoldable pub asked : Opening
@@ -118,6 +118,12 @@ leave-answers = refl
 pub end-answers : Answers left (askRoster 1 cars) (cars ∷ []) (accept (numbers (0 ∷ [])))
 unfolding asked rect at next opened added entered moved barred left removed again meaning first keep span sum onTown columnOf rowOf onMap inRange whole cellOf ofBits toBits isNan number interleave cutTo inCut inside cornerX cornerY evens
 end-answers = refl
+
+-- ---- the count of zone 1 on the way: no car, car 7, no car again; a zone that does not stand, a number that is none
+
+pub count-answers : Answers added (askCount 1) [] (accept (numbers (0 ∷ []))) × Answers moved (askCount 1) [] (accept (numbers (1 ∷ []))) × Answers left (askCount 1) [] (accept (numbers (0 ∷ []))) × Answers removed (askCount 1) [] (refuse 7) × Answers opened (askCount 16) [] (refuse 4)
+unfolding asked rect at next opened added entered moved barred left removed again meaning first keep span sum onTown columnOf rowOf onMap inRange whole cellOf ofBits toBits isNan number interleave cutTo inCut inside cornerX cornerY evens
+count-answers = (refl, refl, refl, refl, refl)
 
 -- ---- and what a removal and another open leave
 

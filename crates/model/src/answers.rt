@@ -41,6 +41,12 @@ pub enum RosterOf {
     Cars(usize),
 }
 
+// How many cars are in a zone.
+pub enum CountOf {
+    Refused(u32),
+    Cars(u32),
+}
+
 // Where a car is: its stored position.
 pub enum WhereIs {
     Refused(u32),

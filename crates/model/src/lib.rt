@@ -2,6 +2,7 @@
 mod answers; // answers.rt: what the calls answer
 
 pub use answers::Added;
+pub use answers::CountOf;
 pub use answers::Left;
 pub use answers::Opened;
 pub use answers::Removed;

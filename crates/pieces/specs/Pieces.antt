@@ -1,5 +1,5 @@
 -- A piece of the input answered into a lent buffer.
-use Prim.Native.Nat.{ℕ, _-_, _≤_}
+use Prim.Native.Nat.{ℕ, _-_, _*_, _≤_}
 use mathlib.Core.Path.{_≡_}
 use mathlib.Core.Bool.{Bool, cond, _&&_}
 use mathlib.Core.List.{List, [], _∷_, _++_}
@@ -8,7 +8,7 @@ use denote.Triple.Both.{Both}
 use lib.ListN.{length, getD, take, replicate}
 use Rattle.order.specs.Order.{over}
 use Rattle.squares.specs.Refusals.{Bar, first}
-use Rattle.tables.specs.Tables.{Tables, townOf}
+use Rattle.tables.specs.Tables.{Tables, tally, townOf}
 use Rattle.season.specs.Output.{Line, lineOf, reply}
 use Rattle.room.specs.Room.{Ready}
 use Rattle.records.specs.Replies.{tablesAfter}
@@ -55,7 +55,7 @@ finish t (b ∷ held) = record { tables = tablesAfter t (lineOf (b ∷ held)); h
 
 -- the lengths of the program's tables
 abbrev pub roomed : Tables → Bool
-roomed t = eqb (length (t .records .head)) 6 && (eqb (length (t .records .zones)) 64 && (eqb (length (t .records .cars)) 64 && (eqb (length (t .records .spots)) 128 && (eqb (length (t .derived .starts)) 5462 && (eqb (length (t .derived .entries)) 2048 && eqb (length (t .derived .rosters)) 1024)))))
+roomed t = eqb (length (t .records .head)) 6 && (eqb (length (t .records .zones)) 64 && (eqb (length (t .records .cars)) 64 && (eqb (length (t .records .spots)) 128 && (eqb (length (t .derived .starts)) 5462 && (eqb (length (t .derived .entries)) 2048 && (eqb (length (t .derived .rosters)) 1024 && eqb (length (t .derived .tallies)) (16 * tally)))))))
 
 -- what is asked, in order, with the number of the refusal
 abbrev pub checks : Tables → List ℕ → List ℕ → List Bar

@@ -27,6 +27,7 @@ roomed→ t e =
     let d = and→ _ _ (c .1) in
     let f = and→ _ _ (d .1) in
     let g = and→ _ _ (f .1) in
+    let h = and→ _ _ (g .1) in
     record {
       head = eqb-true _ _ (a .0);
       zones = eqb-true _ _ (b .0);
@@ -34,11 +35,12 @@ roomed→ t e =
       spots = eqb-true _ _ (d .0);
       starts = eqb-true _ _ (f .0);
       entries = eqb-true _ _ (g .0);
-      rosters = eqb-true _ _ (g .1);
+      rosters = eqb-true _ _ (h .0);
+      tallies = eqb-true _ _ (h .1);
     }
 
 →roomed : (t : Tables) → Roomed t → roomed t ≡ true
-→roomed t room = simp (eq-eqb _ _ (room .head), eq-eqb _ _ (room .zones), eq-eqb _ _ (room .cars), eq-eqb _ _ (room .spots), eq-eqb _ _ (room .starts), eq-eqb _ _ (room .entries), eq-eqb _ _ (room .rosters))
+→roomed t room = simp (eq-eqb _ _ (room .head), eq-eqb _ _ (room .zones), eq-eqb _ _ (room .cars), eq-eqb _ _ (room .spots), eq-eqb _ _ (room .starts), eq-eqb _ _ (room .entries), eq-eqb _ _ (room .rosters), eq-eqb _ _ (room .tallies))
 
 -- the test of the held bytes
 abbrev counted : List ℕ → Bool

@@ -1,5 +1,6 @@
 // A piece of the input answered line by line, and what is held at the input's end.
 use steps::step;
+use tables::TALLY;
 ghost use Prim.Native.Nat.{_≤_};
 ghost use mathlib.Core.Path.{_≡_};
 ghost use mathlib.Core.List.{[]};
@@ -25,10 +26,11 @@ pub fn refuse(
     starts: &[u32],
     entries: &[u32],
     rosters: &[u8],
+    tallies: &[u32],
     held: &[u8],
     out: &[u8],
 ) -> u32
-    ensures { λ r. ⌜ Refuses (lent head zones cars spots starts entries rosters .entry) (now (held .entry)) (now (out .entry)) r ⌝ }
+    ensures { λ r. ⌜ Refuses (lent head zones cars spots starts entries rosters tallies .entry) (now (held .entry)) (now (out .entry)) r ⌝ }
 {
     if head.len() != 6 {
         return 3;
@@ -49,6 +51,9 @@ pub fn refuse(
         return 3;
     }
     if rosters.len() != 1024 {
+        return 3;
+    }
+    if tallies.len() != 16 * TALLY {
         return 3;
     }
     if held.len() != 82 {
@@ -95,12 +100,13 @@ fn answer_line(
     starts: &mut [u32],
     entries: &mut [u32],
     rosters: &mut [u8],
+    tallies: &mut [u32],
     ended: bool,
     line: &[u8],
     out: &mut [u8],
 ) -> usize
-    requires { ⌜ Roomed (given head zones cars spots starts entries rosters) ⌝ }
-    ensures { λ n. ⌜ Answers (lent head zones cars spots starts entries rosters) ended (lineOf (now (line .entry))) (now (out .entry)) (now (out .exit)) n ⌝ }
+    requires { ⌜ Roomed (given head zones cars spots starts entries rosters tallies) ⌝ }
+    ensures { λ n. ⌜ Answers (lent head zones cars spots starts entries rosters tallies) ended (lineOf (now (line .entry))) (now (out .entry)) (now (out .exit)) n ⌝ }
 {
     if !ended {
         return 0;
@@ -113,6 +119,7 @@ fn answer_line(
         starts,
         entries,
         rosters,
+        tallies,
         line,
         out,
     )
@@ -127,12 +134,13 @@ pub fn fill_lines(
     starts: &mut [u32],
     entries: &mut [u32],
     rosters: &mut [u8],
+    tallies: &mut [u32],
     piece: &[u8],
     held: &mut [u8],
     out: &mut [u8],
 ) -> Filling
-    requires { ⌜ Lending (given head zones cars spots starts entries rosters) (now held) (now out) ⌝ }
-    ensures { λ r. ⌜ Passes (fill (length (now (out .entry))) (lent head zones cars spots starts entries rosters .entry) (heldIn (now (held .entry))) (now (piece .entry))) (lent head zones cars spots starts entries rosters) (now (piece .entry)) (now (held .exit)) (now (out .entry)) (now (out .exit)) r ⌝ }
+    requires { ⌜ Lending (given head zones cars spots starts entries rosters tallies) (now held) (now out) ⌝ }
+    ensures { λ r. ⌜ Passes (fill (length (now (out .entry))) (lent head zones cars spots starts entries rosters tallies .entry) (heldIn (now (held .entry))) (now (piece .entry))) (lent head zones cars spots starts entries rosters tallies) (now (piece .entry)) (now (held .exit)) (now (out .entry)) (now (out .exit)) r ⌝ }
 {
     let mut at = 0;
     let mut many = held[81] as usize;
@@ -148,6 +156,7 @@ pub fn fill_lines(
             starts,
             entries,
             rosters,
+            tallies,
             taken.whole,
             &held[..bytes],
             &mut out[wrote..],
@@ -168,11 +177,12 @@ pub fn fill_last(
     starts: &mut [u32],
     entries: &mut [u32],
     rosters: &mut [u8],
+    tallies: &mut [u32],
     held: &mut [u8],
     out: &mut [u8],
 ) -> Filling
-    requires { ⌜ Lending (given head zones cars spots starts entries rosters) (now held) (now out) ⌝ }
-    ensures { λ r. ⌜ Passes (finish (lent head zones cars spots starts entries rosters .entry) (heldIn (now (held .entry)))) (lent head zones cars spots starts entries rosters) [] (now (held .exit)) (now (out .entry)) (now (out .exit)) r ⌝ }
+    requires { ⌜ Lending (given head zones cars spots starts entries rosters tallies) (now held) (now out) ⌝ }
+    ensures { λ r. ⌜ Passes (finish (lent head zones cars spots starts entries rosters tallies .entry) (heldIn (now (held .entry)))) (lent head zones cars spots starts entries rosters tallies) [] (now (held .exit)) (now (out .entry)) (now (out .exit)) r ⌝ }
 {
     let many = held[81] as usize;
     let some = many > 0;
@@ -184,6 +194,7 @@ pub fn fill_last(
         starts,
         entries,
         rosters,
+        tallies,
         some,
         &held[..many],
         out,

@@ -13,10 +13,11 @@ use Rattle.model.specs.declared.answers.Reported.{Reported}
 use Rattle.model.specs.declared.answers.Left.{Left}
 use Rattle.model.specs.declared.answers.Searched.{Searched}
 use Rattle.model.specs.declared.answers.RosterOf.{RosterOf}
+use Rattle.model.specs.declared.answers.CountOf.{CountOf}
 use Rattle.model.specs.declared.answers.WhereIs.{WhereIs}
 use Rattle.model.specs.declared.answers.SoundnessOf.{SoundnessOf}
-use Rattle.model.specs.Answers.{Values, openedIs, addedIs, removedIs, reportedIs, leftIs, searchedIs, rosterIs, whereIs, soundnessIs}
-use Rattle.model.specs.Model.{Opening, Call, opening, adding, removing, reporting, leaving, searching, askRoster, askWhere, askSoundness, Event}
+use Rattle.model.specs.Answers.{Values, openedIs, addedIs, removedIs, reportedIs, leftIs, searchedIs, rosterIs, countIs, whereIs, soundnessIs}
+use Rattle.model.specs.Model.{Opening, Call, opening, adding, removing, reporting, leaving, searching, askRoster, askCount, askWhere, askSoundness, Event}
 use Rattle.tables.specs.Lent.{Slice}
 
 abbrev pub event : Call → List (List ℕ) → Answer Values → Event
@@ -46,6 +47,9 @@ searched p found answer = event (searching p (now (found .entry))) (now (found .
 
 abbrev pub rosterTold : ℕ → Slice ℕ → RosterOf → Event
 rosterTold z inside answer = event (askRoster z (now (inside .entry))) (now (inside .exit) ∷ []) (rosterIs answer)
+
+abbrev pub countTold : ℕ → CountOf → Event
+countTold z answer = event (askCount z) [] (countIs answer)
 
 abbrev pub whereTold : ℕ → WhereIs → Event
 whereTold c answer = event (askWhere c) [] (whereIs answer)

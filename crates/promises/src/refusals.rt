@@ -13,11 +13,12 @@ pub fn refuse_zone(
     starts: &[u32],
     entries: &[u32],
     rosters: &[u8],
+    tallies: &[u32],
     zone: u32,
 ) -> u32
-    ensures { λ r. ⌜ r ≡ bars (lent head zones cars spots starts entries rosters .entry) (removing zone) ⌝ }
+    ensures { λ r. ⌜ r ≡ bars (lent head zones cars spots starts entries rosters tallies .entry) (removing zone) ⌝ }
 {
-    if !tables::sized(head, zones, cars, spots, starts, entries, rosters) {
+    if !tables::sized(head, zones, cars, spots, starts, entries, rosters, tallies) {
         return 3;
     }
     if tables::zone_room(head) <= zone {
@@ -38,11 +39,12 @@ pub fn refuse_car(
     starts: &[u32],
     entries: &[u32],
     rosters: &[u8],
+    tallies: &[u32],
     car: u32,
 ) -> u32
-    ensures { λ r. ⌜ r ≡ bars (lent head zones cars spots starts entries rosters .entry) (askWhere car) ⌝ }
+    ensures { λ r. ⌜ r ≡ bars (lent head zones cars spots starts entries rosters tallies .entry) (askWhere car) ⌝ }
 {
-    if !tables::sized(head, zones, cars, spots, starts, entries, rosters) {
+    if !tables::sized(head, zones, cars, spots, starts, entries, rosters, tallies) {
         return 3;
     }
     if tables::car_room(head) <= car {

@@ -1,11 +1,11 @@
--- What a roster and a where that are not barred have, and how they keep the promise.
+-- What a roster, a count and a where that are not barred have, and how they keep the promise.
 use Prim.Native.Nat.{ℕ, _*_, _<_, _≤_}
 use mathlib.Core.Path.{_≡_, refl, ap, sym, _∙_}
 use mathlib.Core.Bool.{true}
 use mathlib.Core.List.{List, [], _∷_}
 use native.Mathlib.Nat.{zero-add}
 use native.Mathlib.Omega.{arith}
-use lib.ListN.{length}
+use lib.ListN.{length, getD}
 use borrow.Author.Tests.{leb-true, ltb-true}
 use Rattle.order.specs.Order.{upto, over}
 use Rattle.order.specs.Order.{Wrote}
@@ -15,18 +15,20 @@ use Rattle.squares.specs.Refusals.{first}
 use Rattle.squares.specs.RefusalLaws.{clear}
 use Rattle.model.specs.declared.answers.WhereIs.{WhereIs}
 use Rattle.model.specs.declared.answers.RosterOf.{RosterOf}
+use Rattle.model.specs.declared.answers.CountOf.{CountOf}
 use Rattle.model.specs.Answers.{numbers, spot, whereIs, rosterIs}
-use Rattle.model.specs.Model.{askWhere, askRoster, holdsCar, roster, meaning}
-use Rattle.tables.specs.Tables.{Tables, zoneRoom, carRoom, placed, spotOf, townOf, rosterHas}
+use Rattle.model.specs.Model.{askWhere, askRoster, askCount, holdsCar, roster, meaning}
+use Rattle.tables.specs.Tables.{Tables, tally, zoneRoom, carRoom, placed, spotOf, townOf, rosterHas}
 use Rattle.tables.specs.Sizes.{Sized}
 use Rattle.tables.specs.CheckLaws.{sized→}
 use Rattle.tables.specs.RecordLaws.{placed-known, car-in}
 use Rattle.tables.specs.Sound.{Sound}
 use Rattle.tables.specs.Rows.{row}
 use Rattle.tables.specs.RowLaws.{sound-row}
+use Rattle.tables.specs.TallyLaws.{count-sound}
 use Rattle.tables.specs.Lent.{both}
 use Rattle.promises.specs.Promise.{means, bars, Keeps}
-use Rattle.promises.specs.Events.{event, whereTold}
+use Rattle.promises.specs.Events.{event, countTold, whereTold}
 use Rattle.promises.specs.PromiseLaws.{keeps-done}
 
 -- ---- where a car is
@@ -75,3 +77,23 @@ module _ {t : Tables} {z : ℕ} {b : List ℕ} (ok : Standing t z b) where
 
       written : Sound t → b′ ≡ over (roster (townOf t) z) b
       written sound = wrote-over (whole sound) (omega (arith, length-keep (holdsCar (townOf t) z) (upto (carRoom t)), length-span 0 (carRoom t), ok .enough))
+
+-- ---- count
+
+pub record Counted (t : Tables) (z : ℕ) : Type 0 where
+  pub none : bars t (askCount z) ≡ 0
+  pub size : Sized t
+  pub zone : z < zoneRoom t
+
+pub counted : (t : Tables) (z : ℕ) → bars t (askCount z) ≡ 0 → Counted t z
+unfolding meaning
+counted t z none = let h = clear (means t (askCount z) .checks) refl none in record { none = none; size = sized→ t (h .0); zone = ltb-true z (zoneRoom t) (h .1 .0) }
+
+module _ {t : Tables} {z : ℕ} (ok : Counted t z) where
+  pub count-there : z * tally < length (t .derived .tallies)
+  count-there = omega (arith, ok .size .lengths .tallies, ok .zone)
+
+  -- the stored number is the roster's length
+  pub count-kept : Keeps (both t t) (countTold z (CountOf.Cars (getD (t .derived .tallies) (z * tally) 0)))
+  unfolding meaning first
+  count-kept = keeps-done t (askCount z) _ t (numbers (getD (t .derived .tallies) (z * tally) 0 ∷ [])) (ok .none) refl (λ any sound. (refl, (rw (count-sound t sound z (ok .zone)), refl)))

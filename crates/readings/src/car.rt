@@ -13,11 +13,22 @@ pub fn where_is_car(
     starts: &[u32],
     entries: &[u32],
     rosters: &[u8],
+    tallies: &[u32],
     car: u32,
 ) -> WhereIs
-    ensures { λ r. ⌜ Keeps (lent head zones cars spots starts entries rosters) (whereTold car r) ⌝ }
+    ensures { λ r. ⌜ Keeps (lent head zones cars spots starts entries rosters tallies) (whereTold car r) ⌝ }
 {
-    let refusal = promises::refuse_car(head, zones, cars, spots, starts, entries, rosters, car);
+    let refusal = promises::refuse_car(
+        head,
+        zones,
+        cars,
+        spots,
+        starts,
+        entries,
+        rosters,
+        tallies,
+        car,
+    );
     if refusal != 0 {
         return WhereIs::Refused(refusal);
     }

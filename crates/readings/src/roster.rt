@@ -14,12 +14,23 @@ fn refuse_roster(
     starts: &[u32],
     entries: &[u32],
     rosters: &[u8],
+    tallies: &[u32],
     zone: u32,
     inside: &[u32],
 ) -> u32
-    ensures { λ r. ⌜ r ≡ bars (lent head zones cars spots starts entries rosters .entry) (askRoster zone (now (inside .entry))) ⌝ }
+    ensures { λ r. ⌜ r ≡ bars (lent head zones cars spots starts entries rosters tallies .entry) (askRoster zone (now (inside .entry))) ⌝ }
 {
-    let refusal = promises::refuse_zone(head, zones, cars, spots, starts, entries, rosters, zone);
+    let refusal = promises::refuse_zone(
+        head,
+        zones,
+        cars,
+        spots,
+        starts,
+        entries,
+        rosters,
+        tallies,
+        zone,
+    );
     if refusal != 0 {
         return refusal;
     }
@@ -38,10 +49,11 @@ pub fn roster_of_zone(
     starts: &[u32],
     entries: &[u32],
     rosters: &[u8],
+    tallies: &[u32],
     zone: u32,
     inside: &mut [u32],
 ) -> RosterOf
-    ensures { λ r. ⌜ Keeps (lent head zones cars spots starts entries rosters) (rosterTold zone inside r) ⌝ }
+    ensures { λ r. ⌜ Keeps (lent head zones cars spots starts entries rosters tallies) (rosterTold zone inside r) ⌝ }
 {
     let refusal = refuse_roster(
         head,
@@ -51,6 +63,7 @@ pub fn roster_of_zone(
         starts,
         entries,
         rosters,
+        tallies,
         zone,
         inside,
     );

@@ -17,12 +17,13 @@ fn refuse_search(
     starts: &[u32],
     entries: &[u32],
     rosters: &[u8],
+    tallies: &[u32],
     p: Position,
     found: &[u32],
 ) -> u32
-    ensures { λ r. ⌜ r ≡ bars (lent head zones cars spots starts entries rosters .entry) (searching p (now (found .entry))) ⌝ }
+    ensures { λ r. ⌜ r ≡ bars (lent head zones cars spots starts entries rosters tallies .entry) (searching p (now (found .entry))) ⌝ }
 {
-    if !tables::sized(head, zones, cars, spots, starts, entries, rosters) {
+    if !tables::sized(head, zones, cars, spots, starts, entries, rosters, tallies) {
         return 3;
     }
     let Spot::Cell(_, _) = position::locate(tables::shape_in(head), p) else {
@@ -44,12 +45,24 @@ pub fn search_zones(
     starts: &[u32],
     entries: &[u32],
     rosters: &[u8],
+    tallies: &[u32],
     p: Position,
     found: &mut [u32],
 ) -> Searched
-    ensures { λ r. ⌜ Keeps (lent head zones cars spots starts entries rosters) (searched p found r) ⌝ }
+    ensures { λ r. ⌜ Keeps (lent head zones cars spots starts entries rosters tallies) (searched p found r) ⌝ }
 {
-    let refusal = refuse_search(head, zones, cars, spots, starts, entries, rosters, p, found);
+    let refusal = refuse_search(
+        head,
+        zones,
+        cars,
+        spots,
+        starts,
+        entries,
+        rosters,
+        tallies,
+        p,
+        found,
+    );
     if refusal != 0 {
         return Searched::Refused(refusal);
     }

@@ -13,13 +13,14 @@ pub fn soundness_of_town(
     starts: &[u32],
     entries: &[u32],
     rosters: &[u8],
+    tallies: &[u32],
 ) -> SoundnessOf
-    ensures { λ r. ⌜ Keeps (lent head zones cars spots starts entries rosters) (soundnessTold r) ⌝ }
+    ensures { λ r. ⌜ Keeps (lent head zones cars spots starts entries rosters tallies) (soundnessTold r) ⌝ }
 {
-    if !tables::sized(head, zones, cars, spots, starts, entries, rosters) {
+    if !tables::sized(head, zones, cars, spots, starts, entries, rosters, tallies) {
         return SoundnessOf::Refused(3);
     }
-    if !soundness::sound(head, zones, cars, spots, starts, entries, rosters) {
+    if !soundness::sound(head, zones, cars, spots, starts, entries, rosters, tallies) {
         return SoundnessOf::Unsound;
     }
     SoundnessOf::Sound

@@ -122,6 +122,7 @@ module _ (k P Q : ℕ) where
       starts = length-take-le m (t .derived .starts) open-within ∙ many .1;
       entries = room .entries;
       rosters = room .rosters;
+      tallies = room .tallies;
     }
 
     open-passes : 0 ≡ bars offered (opening o)

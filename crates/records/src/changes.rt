@@ -26,13 +26,14 @@ pub fn open_record(
     starts: &mut [u32],
     entries: &mut [u32],
     rosters: &mut [u8],
+    tallies: &mut [u32],
     k: u32,
     P: u32,
     Q: u32,
     out: &mut [u8],
 ) -> usize
-    requires { ⌜ Roomed (given head zones cars spots starts entries rosters) ⌝ }
-    ensures { λ n. ⌜ Replies (lent head zones cars spots starts entries rosters) (callOf (Open k P Q)) (now (out .entry)) (now (out .exit)) n ⌝ }
+    requires { ⌜ Roomed (given head zones cars spots starts entries rosters tallies) ⌝ }
+    ensures { λ n. ⌜ Replies (lent head zones cars spots starts entries rosters tallies) (callOf (Open k P Q)) (now (out .entry)) (now (out .exit)) n ⌝ }
 {
     match open_room(k, P, Q) {
         RoomFor::Refused(n) => write_opened(Opened::Refused(n), out),
@@ -45,6 +46,7 @@ pub fn open_record(
                 &mut starts[..many],
                 entries,
                 rosters,
+                tallies,
                 k,
                 P,
                 Q,
@@ -66,12 +68,13 @@ pub fn add_record(
     starts: &mut [u32],
     entries: &mut [u32],
     rosters: &mut [u8],
+    tallies: &mut [u32],
     zone: u32,
     r: Rect,
     out: &mut [u8],
 ) -> usize
-    requires { ⌜ Roomed (given head zones cars spots starts entries rosters) ⌝ }
-    ensures { λ n. ⌜ Replies (lent head zones cars spots starts entries rosters) (callOf (Add zone (r .a) (r .b) (r .w) (r .h))) (now (out .entry)) (now (out .exit)) n ⌝ }
+    requires { ⌜ Roomed (given head zones cars spots starts entries rosters tallies) ⌝ }
+    ensures { λ n. ⌜ Replies (lent head zones cars spots starts entries rosters tallies) (callOf (Add zone (r .a) (r .b) (r .w) (r .h))) (now (out .entry)) (now (out .exit)) n ⌝ }
 {
     let many = places_in(head, starts);
     let answer = zones::add_zone(
@@ -82,6 +85,7 @@ pub fn add_record(
         &mut starts[..many],
         entries,
         rosters,
+        tallies,
         zone,
         r,
     );
@@ -97,11 +101,12 @@ pub fn remove_record(
     starts: &mut [u32],
     entries: &mut [u32],
     rosters: &mut [u8],
+    tallies: &mut [u32],
     zone: u32,
     out: &mut [u8],
 ) -> usize
-    requires { ⌜ Roomed (given head zones cars spots starts entries rosters) ⌝ }
-    ensures { λ n. ⌜ Replies (lent head zones cars spots starts entries rosters) (callOf (Remove zone)) (now (out .entry)) (now (out .exit)) n ⌝ }
+    requires { ⌜ Roomed (given head zones cars spots starts entries rosters tallies) ⌝ }
+    ensures { λ n. ⌜ Replies (lent head zones cars spots starts entries rosters tallies) (callOf (Remove zone)) (now (out .entry)) (now (out .exit)) n ⌝ }
 {
     let many = places_in(head, starts);
     let answer = zones::remove_zone(
@@ -112,6 +117,7 @@ pub fn remove_record(
         &mut starts[..many],
         entries,
         rosters,
+        tallies,
         zone,
     );
     write_removed(answer, out)
@@ -126,13 +132,14 @@ pub fn report_record(
     starts: &[u32],
     entries: &[u32],
     rosters: &mut [u8],
+    tallies: &mut [u32],
     car: u32,
     x: u32,
     y: u32,
     out: &mut [u8],
 ) -> usize
-    requires { ⌜ Roomed (given head zones cars spots starts entries rosters) ⌝ }
-    ensures { λ n. ⌜ Replies (lent head zones cars spots starts entries rosters) (callOf (Report car x y)) (now (out .entry)) (now (out .exit)) n ⌝ }
+    requires { ⌜ Roomed (given head zones cars spots starts entries rosters tallies) ⌝ }
+    ensures { λ n. ⌜ Replies (lent head zones cars spots starts entries rosters tallies) (callOf (Report car x y)) (now (out .entry)) (now (out .exit)) n ⌝ }
 {
     let many = places_in(head, starts);
     let mut entered = [0u32; 16];
@@ -145,6 +152,7 @@ pub fn report_record(
         &starts[..many],
         entries,
         rosters,
+        tallies,
         car,
         position_of(x, y),
         &mut entered,
@@ -162,11 +170,12 @@ pub fn leave_record(
     starts: &[u32],
     entries: &[u32],
     rosters: &mut [u8],
+    tallies: &mut [u32],
     car: u32,
     out: &mut [u8],
 ) -> usize
-    requires { ⌜ Roomed (given head zones cars spots starts entries rosters) ⌝ }
-    ensures { λ n. ⌜ Replies (lent head zones cars spots starts entries rosters) (callOf (Leave car)) (now (out .entry)) (now (out .exit)) n ⌝ }
+    requires { ⌜ Roomed (given head zones cars spots starts entries rosters tallies) ⌝ }
+    ensures { λ n. ⌜ Replies (lent head zones cars spots starts entries rosters tallies) (callOf (Leave car)) (now (out .entry)) (now (out .exit)) n ⌝ }
 {
     let many = places_in(head, starts);
     let mut left = [0u32; 16];
@@ -178,6 +187,7 @@ pub fn leave_record(
         &starts[..many],
         entries,
         rosters,
+        tallies,
         car,
         &mut left,
     );

@@ -19,12 +19,13 @@ pub fn search_record(
     starts: &[u32],
     entries: &[u32],
     rosters: &[u8],
+    tallies: &[u32],
     x: u32,
     y: u32,
     out: &mut [u8],
 ) -> usize
-    requires { ⌜ Roomed (given head zones cars spots starts entries rosters) ⌝ }
-    ensures { λ n. ⌜ Replies (lent head zones cars spots starts entries rosters) (callOf (Search x y)) (now (out .entry)) (now (out .exit)) n ⌝ }
+    requires { ⌜ Roomed (given head zones cars spots starts entries rosters tallies) ⌝ }
+    ensures { λ n. ⌜ Replies (lent head zones cars spots starts entries rosters tallies) (callOf (Search x y)) (now (out .entry)) (now (out .exit)) n ⌝ }
 {
     let many = places_in(head, starts);
     let mut found = [0u32; 16];
@@ -36,6 +37,7 @@ pub fn search_record(
         &starts[..many],
         entries,
         rosters,
+        tallies,
         position_of(x, y),
         &mut found,
     );
@@ -51,11 +53,12 @@ pub fn roster_record(
     starts: &[u32],
     entries: &[u32],
     rosters: &[u8],
+    tallies: &[u32],
     zone: u32,
     out: &mut [u8],
 ) -> usize
-    requires { ⌜ Roomed (given head zones cars spots starts entries rosters) ⌝ }
-    ensures { λ n. ⌜ Replies (lent head zones cars spots starts entries rosters) (callOf (Roster zone)) (now (out .entry)) (now (out .exit)) n ⌝ }
+    requires { ⌜ Roomed (given head zones cars spots starts entries rosters tallies) ⌝ }
+    ensures { λ n. ⌜ Replies (lent head zones cars spots starts entries rosters tallies) (callOf (Roster zone)) (now (out .entry)) (now (out .exit)) n ⌝ }
 {
     let many = places_in(head, starts);
     let mut inside = [0u32; 64];
@@ -67,6 +70,7 @@ pub fn roster_record(
         &starts[..many],
         entries,
         rosters,
+        tallies,
         zone,
         &mut inside,
     );

@@ -1,9 +1,9 @@
 -- Calls one after another from the program's own start: what was read, and what was put into the buffers.
-use Prim.Native.Nat.{ℕ}
+use Prim.Native.Nat.{ℕ, _*_}
 use mathlib.Core.List.{List, [], _∷_, _++_}
 use lib.Ieee.{binary32, ofBits}
 use lib.ListN.{length, take, replicate}
-use Rattle.tables.specs.Tables.{Tables, tables}
+use Rattle.tables.specs.Tables.{Tables, tables, tally}
 use Rattle.tables.specs.Lent.{both}
 use Rattle.season.specs.Output.{Line}
 use Rattle.records.specs.Replies.{tablesAfter}
@@ -21,6 +21,7 @@ start =
     (replicate 5462 0)
     (replicate 2048 0)
     (replicate 1024 0)
+    (replicate (16 * tally) 0)
 
 -- the tables after lines, one after another
 unfoldable pub afterLines : Tables → List Line → Tables

@@ -17,7 +17,7 @@ use Rattle.squares.specs.Refusals.{first}
 use Rattle.squares.specs.RefusalLaws.{by-refusal}
 use Rattle.position.specs.declared.Position.{Position}
 use Rattle.model.specs.Model.{Town, nowhere}
-use Rattle.tables.specs.Tables.{Tables, stands, placed, zoneIn, carIn, rectOf, spotOf, shapeOf, townOf}
+use Rattle.tables.specs.Tables.{Tables, tally, stands, placed, zoneIn, carIn, rectOf, spotOf, shapeOf, townOf}
 use Rattle.tables.specs.Lent.{both}
 use Rattle.line.specs.Grammar.{meaning}
 use Rattle.line.specs.Lines.{last, lines, Fed, before, feed, ending}
@@ -152,6 +152,7 @@ ready-start = record {
     starts = length-replicate {A = ℕ} 5462 0;
     entries = length-replicate {A = ℕ} 2048 0;
     rosters = length-replicate {A = ℕ} 1024 0;
+    tallies = length-replicate {A = ℕ} (16 * tally) 0;
   };
   sound = λ e. absurd (true-not-false _ e closed);
 }

@@ -17,11 +17,12 @@ pub fn answer_piece(
     starts: &mut [u32],
     entries: &mut [u32],
     rosters: &mut [u8],
+    tallies: &mut [u32],
     piece: &[u8],
     held: &mut [u8],
     out: &mut [u8],
 ) -> Filling
-    ensures { λ r. ⌜ Fills (fill (length (now (out .entry))) (lent head zones cars spots starts entries rosters .entry) (heldIn (now (held .entry))) (now (piece .entry))) (lent head zones cars spots starts entries rosters) (now (piece .entry)) (now (held .entry)) (now (held .exit)) (now (out .entry)) (now (out .exit)) r ⌝ }
+    ensures { λ r. ⌜ Fills (fill (length (now (out .entry))) (lent head zones cars spots starts entries rosters tallies .entry) (heldIn (now (held .entry))) (now (piece .entry))) (lent head zones cars spots starts entries rosters tallies) (now (piece .entry)) (now (held .entry)) (now (held .exit)) (now (out .entry)) (now (out .exit)) r ⌝ }
 {
     let refused = refuse(
         head,
@@ -31,6 +32,7 @@ pub fn answer_piece(
         starts,
         entries,
         rosters,
+        tallies,
         held,
         out,
     );
@@ -45,6 +47,7 @@ pub fn answer_piece(
         starts,
         entries,
         rosters,
+        tallies,
         piece,
         held,
         out,
@@ -60,10 +63,11 @@ pub fn answer_end(
     starts: &mut [u32],
     entries: &mut [u32],
     rosters: &mut [u8],
+    tallies: &mut [u32],
     held: &mut [u8],
     out: &mut [u8],
 ) -> Filling
-    ensures { λ r. ⌜ Fills (finish (lent head zones cars spots starts entries rosters .entry) (heldIn (now (held .entry)))) (lent head zones cars spots starts entries rosters) [] (now (held .entry)) (now (held .exit)) (now (out .entry)) (now (out .exit)) r ⌝ }
+    ensures { λ r. ⌜ Fills (finish (lent head zones cars spots starts entries rosters tallies .entry) (heldIn (now (held .entry)))) (lent head zones cars spots starts entries rosters tallies) [] (now (held .entry)) (now (held .exit)) (now (out .entry)) (now (out .exit)) r ⌝ }
 {
     let refused = refuse(
         head,
@@ -73,6 +77,7 @@ pub fn answer_end(
         starts,
         entries,
         rosters,
+        tallies,
         held,
         out,
     );
@@ -87,6 +92,7 @@ pub fn answer_end(
         starts,
         entries,
         rosters,
+        tallies,
         held,
         out,
     )

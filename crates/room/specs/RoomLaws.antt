@@ -17,7 +17,7 @@ use Rattle.squares.specs.Shape.{allowed, width, height}
 use Rattle.squares.specs.Bounds.{Allowed}
 use Rattle.squares.specs.Squares.{squares}
 use Rattle.squares.specs.ShapeLaws.{area, →allowed}
-use Rattle.tables.specs.Tables.{Tables, shapeIn, shapeOf, zoneRoom, carRoom, entryRoom, stands, placed, zoneIn, carIn, townOf}
+use Rattle.tables.specs.Tables.{Tables, tally, shapeIn, shapeOf, zoneRoom, carRoom, entryRoom, stands, placed, zoneIn, carIn, townOf}
 use Rattle.tables.specs.Check.{sized}
 use Rattle.tables.specs.Sound.{Sound}
 use Rattle.tables.specs.CheckLaws.{sized→, sized-shape, size-of}
@@ -101,6 +101,7 @@ module _ {t : Tables} (ready : Ready t) where
             starts = length-over (u .derived .starts) (t .derived .starts) (omega (arith, l .starts, ready .room .starts)) ∙ ready .room .starts;
             entries = l .entries ∙ e;
             rosters = l .rosters ∙ rw (z, c);
+            tallies = l .tallies ∙ ap (λ (n : ℕ). n * tally) z;
           };
           sound = λ _. rw (take-at (u .derived .starts) _ (placesOf (u .records .head)) (sym places)) sound;
         }

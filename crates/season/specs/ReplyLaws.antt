@@ -17,7 +17,7 @@ use Rattle.cuts.specs.Cut.{cut}
 use Rattle.squares.specs.Refusals.{Bar, unless, first, Result, result}
 use Rattle.squares.specs.RefusalLaws.{stops, clear}
 use Rattle.model.specs.Answers.{Values}
-use Rattle.model.specs.Model.{Town, known, roster, zonesAt, zonesOf, zonesEntered, zonesLeft, looked, Call, opening, adding, removing, reporting, leaving, searching, askRoster, askWhere, askSoundness, zoneOn, changeOf, changeBy, after, Meaning, meaning}
+use Rattle.model.specs.Model.{Town, known, roster, zonesAt, zonesOf, zonesEntered, zonesLeft, looked, Call, opening, adding, removing, reporting, leaving, searching, askRoster, askCount, askWhere, askSoundness, zoneOn, changeOf, changeBy, after, Meaning, meaning}
 use Rattle.line.specs.declared.records.Record.{Record}
 use Rattle.line.specs.declared.records.Record.the-variants.{Bad, Open, Add, Remove, Report, Leave, Search, Roster}
 use Rattle.print.specs.Text.{digits, number, members, parts}
@@ -65,6 +65,7 @@ module _ (m : Town) where
   tests-apart (leaving c left) = refl
   tests-apart (searching p found) = refl
   tests-apart (askRoster z inside) = refl
+  tests-apart (askCount z) = refl
   tests-apart (askWhere c) = refl
   tests-apart askSoundness = refl
 
@@ -136,6 +137,7 @@ module _ (m : Town) (h : Proper m) where
   proper-after (leaving c left) e = h
   proper-after (searching p found) e = h
   proper-after (askRoster z inside) e = h
+  proper-after (askCount z) e = h
   proper-after (askWhere c) e = h
   proper-after askSoundness e = h
 

@@ -5,5 +5,6 @@ pub mod StartLaws
 pub mod ZoneLaws
 pub mod CarLaws
 pub mod EntryLaws
+pub mod CountLaws
 pub mod SoundnessLaws
 pub mod SweepLaws

@@ -25,17 +25,18 @@ use Rattle.squares.specs.Bounds.{Fits}
 use Rattle.squares.specs.Squares.{squares}
 use Rattle.squares.specs.ShapeLaws.{fits→, →fits}
 use Rattle.position.specs.Answer.{onTown}
-use Rattle.tables.specs.Tables.{Tables, shapeOf, zoneRoom, carRoom, entryRoom, rectIn, standsIn, stands, placed, spotIn, zoneIn, carIn, rosterHas, rectOf}
+use Rattle.tables.specs.Tables.{Tables, tally, shapeOf, zoneRoom, carRoom, entryRoom, rectIn, standsIn, stands, placed, spotIn, zoneIn, carIn, rosterHas, rectOf}
 use Rattle.tables.specs.Sizes.{Sized}
-use Rattle.tables.specs.Derived.{on, keysTo, used, free, entriesOf, startsOf, rostersOf, derivedOf}
+use Rattle.tables.specs.Derived.{on, keysTo, used, free, entriesOf, startsOf, rostersOf, talliesOf, derivedOf}
 use Rattle.tables.specs.Sound.{Sound}
-use Rattle.tables.specs.RecordLaws.{starts-fresh, entries-fresh, rosters-fresh}
+use Rattle.tables.specs.RecordLaws.{starts-fresh, entries-fresh, rosters-fresh, tallies-fresh}
 use Rattle.tables.specs.CountLaws.{past-zones, count-used}
-use Rattle.soundness.specs.Tests.{every, zoneFits, carFits, keyRight, rightAt, risesAt, freeAt, sizeAt, startRight, has, byteRight, inUse, recordsRight, entriesRight, sound}
+use Rattle.soundness.specs.Tests.{every, zoneFits, carFits, keyRight, rightAt, risesAt, freeAt, sizeAt, startRight, has, byteRight, countRight, inUse, recordsRight, entriesRight, sound}
 use Rattle.soundness.specs.EveryLaws.{every→, →every}
 use Rattle.soundness.specs.StartLaws.{parts-rank, rank-parts}
 use Rattle.tables.specs.CheckLaws.{→sized}
-use Rattle.tables.specs.RowLaws.{mapped, mapped-at}
+use Rattle.tables.specs.RowLaws.{mapped, mapped-at, right-row}
+use Rattle.tables.specs.TallyLaws.{count-at, counts-by}
 
 -- ---- zones and cars
 
@@ -206,10 +207,24 @@ module _ (t : Tables) (size : Sized t) where
   unfolding byteRight
   →rosters e = →every (byteRight (shapeOf t) (t .records .zones) (t .records .cars) (t .records .spots) (t .derived .rosters) (carRoom t)) (zoneRoom t * carRoom t) (λ i h. eq-eqb _ _ (mapped-at (t .derived .rosters) (λ (j : ℕ). bit (rosterHas t (j / carRoom t) (j % carRoom t))) (zoneRoom t * carRoom t) i e h ∙ ap bit (sym (has-is (i / carRoom t) (i % carRoom t)))))
 
+  -- ---- tallies
+
+  abbrev counted : Bool
+  counted = every (countRight (t .derived .rosters) (t .derived .tallies) (carRoom t)) (zoneRoom t)
+
+  module _ (rosters : t .derived .rosters ≡ rostersOf t) where
+    tallies→ : counted ≡ true → t .derived .tallies ≡ talliesOf t
+    unfolding countRight rosterHas
+    tallies→ e = counts-by t (t .derived .tallies) (size .lengths .tallies) (λ z g. eqb-true _ _ (every→ (countRight (t .derived .rosters) (t .derived .tallies) (carRoom t)) (zoneRoom t) e z g) ∙ ap length (right-row t rosters z g))
+
+    →tallies : t .derived .tallies ≡ talliesOf t → counted ≡ true
+    unfolding countRight rosterHas
+    →tallies e = →every (countRight (t .derived .rosters) (t .derived .tallies) (carRoom t)) (zoneRoom t) (λ z g. eq-eqb _ _ (ap (λ (l : List ℕ). getD l (z * tally) 0) e ∙ count-at t z g ∙ sym (ap length (right-row t rosters z g))))
+
   -- ---- all of them
 
-  same-derived : t .derived .starts ≡ startsOf t → t .derived .entries ≡ entriesOf t → t .derived .rosters ≡ rostersOf t → t .derived ≡ derivedOf t
-  same-derived a b c = rw (← a, ← b, ← c)
+  same-derived : t .derived .starts ≡ startsOf t → t .derived .entries ≡ entriesOf t → t .derived .rosters ≡ rostersOf t → t .derived .tallies ≡ talliesOf t → t .derived ≡ derivedOf t
+  same-derived a b c d = rw (← a, ← b, ← c, ← d)
 
   pub sound→ : sound t ≡ true → Sound t
   unfolding sound stands placed
@@ -219,12 +234,14 @@ module _ (t : Tables) (size : Sized t) where
       let records = and→ (every (zoneFits s (t .records .zones)) (zoneRoom t)) _ (a .0) in
       let b = and→ (right t) _ (a .1) in
       let c = and→ starting _ (b .1) in
+      let d = and→ listed _ (c .1) in
       let w = entries→ (b .0) in
+      let rosters = rosters→ (d .0) in
       record {
         size = →sized t size;
         zones = λ z q. →fits s (rectOf t z) (zones→ s (t .records .zones) (zoneRoom t) (size .lengths .zones) (records .0) z q);
         cars = cars→ s (t .records .cars) (t .records .spots) (carRoom t) (size .lengths .cars) (records .1);
-        derived = same-derived (starts→ w (c .0)) (whole-entries w) (rosters→ (c .1));
+        derived = same-derived (starts→ w (c .0)) (whole-entries w) rosters (tallies→ rosters (d .1));
       }
 
   pub →sound : Sound t → sound t ≡ true
@@ -232,4 +249,4 @@ module _ (t : Tables) (size : Sized t) where
   →sound h =
       let s = shapeOf t in
       let w = entries-whole (in-use (starts-fresh h)) (entries-fresh h) in
-      rw (→zones s (t .records .zones) (zoneRoom t) (λ z q. fits→ s (rectOf t z) (h .zones z q)), →cars s (t .records .cars) (t .records .spots) (carRoom t) (h .cars), →entries w, →starts w (starts-fresh h), →rosters (rosters-fresh h))
+      rw (→zones s (t .records .zones) (zoneRoom t) (λ z q. fits→ s (rectOf t z) (h .zones z q)), →cars s (t .records .cars) (t .records .spots) (carRoom t) (h .cars), →entries w, →starts w (starts-fresh h), →rosters (rosters-fresh h), →tallies (rosters-fresh h) (tallies-fresh h))

@@ -13,10 +13,12 @@ use Rattle.order.specs.TestLaws.{and→}
 use Rattle.squares.specs.declared.shape.Shape.{Shape}
 use Rattle.squares.specs.Squares.{squares}
 use Rattle.squares.specs.ShapeLaws.{squares-few}
-use Rattle.tables.specs.Tables.{Tables, shapeOf, zoneRoom, carRoom}
+use Rattle.tables.specs.Tables.{Tables, tally, shapeOf, zoneRoom, carRoom}
 use Rattle.tables.specs.Sizes.{Sized}
 use Rattle.tables.specs.Asks.{Parked}
-use Rattle.soundness.specs.Tests.{every, zoneFits, carFits, rightAt, risesAt, freeAt, sizeAt, startRight, byteRight, inUse, entriesRight, sound, Zoned, Fitting, Riding}
+use Rattle.tables.specs.Rows.{RowThere}
+use Rattle.tables.specs.RowLaws.{row-in}
+use Rattle.soundness.specs.Tests.{every, zoneFits, carFits, rightAt, risesAt, freeAt, sizeAt, startRight, byteRight, countRight, inUse, entriesRight, sound, Zoned, Fitting, Riding}
 use Rattle.soundness.specs.SoundnessLaws.{zones→, cars→}
 
 -- ---- the entries
@@ -79,6 +81,12 @@ module _ {t : Tables} {s : Shape} {Z C : ℕ} (k : Known t s Z C) where
   pub bytes-many : length (t .derived .rosters) ≡ Z * C
   bytes-many = rw (k .zones, k .cars) (k .size .lengths .rosters)
 
+  pub rows-there : (z : ℕ) → z < Z → RowThere (t .derived .rosters) z C
+  rows-there = rw (k .zones, k .cars) (row-in t (k .size))
+
+  pub counts-many : length (t .derived .tallies) ≡ Z * tally
+  counts-many = rw (k .zones) (k .size .lengths .tallies)
+
   pub last-start : (u : ℕ) → u ≡ getD (t .derived .starts) (length (t .derived .starts) - 1) 0 → u ≡ inUse t
   last-start u e = let h : length (t .derived .starts) - 1 ≡ squares (shapeOf t) = omega (arith, k .size .lengths .starts) in e ∙ ap (λ (n : ℕ). getD (t .derived .starts) n 0) h
 
@@ -101,6 +109,11 @@ module _ {t : Tables} {s : Shape} {Z C : ℕ} (k : Known t s Z C) where
         unfolding sound
         unsound-starts e = rw (rw (k .shape, k .zones) at zone, rw (k .shape, k .cars) at car, rw (k .shape, k .zones, last) at entry, rw (last, k .size .lengths .starts) at e)
 
-        pub sound-rosters : every (startRight (t .derived .starts) (t .derived .entries) u) (length (t .derived .starts)) ≡ true → every (byteRight s (t .records .zones) (t .records .cars) (t .records .spots) (t .derived .rosters) C) (Z * C) ≡ sound t
-        unfolding sound
-        sound-rosters e = rw (rw (k .shape, k .zones) at zone, rw (k .shape, k .cars) at car, rw (k .shape, k .zones, last) at entry, rw (last, k .size .lengths .starts) at e, k .shape, k .zones, k .cars)
+        module _ (start : every (startRight (t .derived .starts) (t .derived .entries) u) (length (t .derived .starts)) ≡ true) where
+          pub unsound-rosters : every (byteRight s (t .records .zones) (t .records .cars) (t .records .spots) (t .derived .rosters) C) (Z * C) ≡ false → false ≡ sound t
+          unfolding sound
+          unsound-rosters e = rw (rw (k .shape, k .zones) at zone, rw (k .shape, k .cars) at car, rw (k .shape, k .zones, last) at entry, rw (last, k .size .lengths .starts) at start, rw (k .shape, k .zones, k .cars) at e)
+
+          pub sound-counts : every (byteRight s (t .records .zones) (t .records .cars) (t .records .spots) (t .derived .rosters) C) (Z * C) ≡ true → every (countRight (t .derived .rosters) (t .derived .tallies) C) Z ≡ sound t
+          unfolding sound
+          sound-counts e = rw (rw (k .shape, k .zones) at zone, rw (k .shape, k .cars) at car, rw (k .shape, k .zones, last) at entry, rw (last, k .size .lengths .starts) at start, rw (k .shape, k .zones, k .cars) at e, k .zones, k .cars)

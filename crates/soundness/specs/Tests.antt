@@ -19,9 +19,10 @@ use Rattle.position.specs.declared.Position.{Position}
 use Rattle.position.specs.Answer.{onTown}
 use Rattle.model.specs.Model.{Town, holdsCar, cutSize}
 use Rattle.soundness.specs.declared.entry.Leveled.{Leveled}
-use Rattle.tables.specs.Tables.{Tables, shapeOf, zoneRoom, carRoom, rectIn, standsIn, placedIn, spotIn}
+use Rattle.tables.specs.Tables.{Tables, tally, shapeOf, zoneRoom, carRoom, rectIn, standsIn, placedIn, spotIn}
 use Rattle.tables.specs.Derived.{levelAt, numberAt, free}
 use Rattle.tables.specs.Asks.{Parked}
+use Rattle.tables.specs.Rows.{row}
 
 -- every number below n has p
 unfoldable pub every : (ℕ → Bool) → ℕ → Bool
@@ -90,6 +91,12 @@ has s zones cars spots z c = holdsCar (townIn s zones cars spots) z c
 unfoldable pub byteRight : Shape → List ℕ → List ℕ → List Float → List ℕ → ℕ → ℕ → Bool
 byteRight s zones cars spots rosters C i = eqb (getD rosters i 0) (bit (has s zones cars spots (i / C) (i % C)))
 
+-- ---- tallies
+
+-- a zone's count is how many bytes of its row are not 0
+unfoldable pub countRight : List ℕ → List ℕ → ℕ → ℕ → Bool
+countRight rosters tallies C z = eqb (getD tallies (z * tally) 0) (length (row rosters (z * C) C))
+
 -- ---- all of them
 
 -- how many entries are in use
@@ -108,7 +115,8 @@ sound t =
     recordsRight t
     && (entriesRight (shapeOf t) (zoneRoom t) (t .records .zones) (t .derived .entries) (inUse t)
     && (every (startRight (t .derived .starts) (t .derived .entries) (inUse t)) (squares (shapeOf t) + 1)
-    && every (byteRight (shapeOf t) (t .records .zones) (t .records .cars) (t .records .spots) (t .derived .rosters) (carRoom t)) (zoneRoom t * carRoom t)))
+    && (every (byteRight (shapeOf t) (t .records .zones) (t .records .cars) (t .records .spots) (t .derived .rosters) (carRoom t)) (zoneRoom t * carRoom t)
+    && every (countRight (t .derived .rosters) (t .derived .tallies) (carRoom t)) (zoneRoom t))))
 
 -- ---- what the functions ask and promise
 

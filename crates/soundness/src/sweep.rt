@@ -1,6 +1,7 @@
 // Soundness: the zones, the cars and the rosters, and all together.
 use crate::lists::entries_right;
 use crate::lists::starts_right;
+use crate::tallies::counts_right;
 use order::wide;
 use position::Spot;
 use position::locate;
@@ -156,9 +157,10 @@ pub fn sound(
     starts: &[u32],
     entries: &[u32],
     rosters: &[u8],
+    tallies: &[u32],
 ) -> bool
-    requires { ⌜ Sized (given head zones cars spots starts entries rosters) ⌝ }
-    ensures { λ r. ⌜ r ≡ sound (lent head zones cars spots starts entries rosters .entry) ⌝ }
+    requires { ⌜ Sized (given head zones cars spots starts entries rosters tallies) ⌝ }
+    ensures { λ r. ⌜ r ≡ sound (lent head zones cars spots starts entries rosters tallies .entry) ⌝ }
 {
     let s = shape_in(head);
     let Z = wide(zone_room(head));
@@ -176,5 +178,8 @@ pub fn sound(
     if !starts_right(starts, entries, u) {
         return false;
     }
-    rosters_right(s, zones, Z, cars, spots, C, rosters)
+    if !rosters_right(s, zones, Z, cars, spots, C, rosters) {
+        return false;
+    }
+    counts_right(rosters, tallies, Z, C)
 }

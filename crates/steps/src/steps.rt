@@ -22,11 +22,12 @@ pub fn step(
     starts: &mut [u32],
     entries: &mut [u32],
     rosters: &mut [u8],
+    tallies: &mut [u32],
     line: &[u8],
     out: &mut [u8],
 ) -> usize
-    requires { ⌜ Roomed (given head zones cars spots starts entries rosters) ⌝ }
-    ensures { λ n. ⌜ Replies (lent head zones cars spots starts entries rosters) (lineOf (now (line .entry))) (now (out .entry)) (now (out .exit)) n ⌝ }
+    requires { ⌜ Roomed (given head zones cars spots starts entries rosters tallies) ⌝ }
+    ensures { λ n. ⌜ Replies (lent head zones cars spots starts entries rosters tallies) (lineOf (now (line .entry))) (now (out .entry)) (now (out .exit)) n ⌝ }
 {
     match line::parse(line) {
         Record::Bad => texts::write_bad(out),
@@ -39,6 +40,7 @@ pub fn step(
                 starts,
                 entries,
                 rosters,
+                tallies,
                 k,
                 P,
                 Q,
@@ -55,6 +57,7 @@ pub fn step(
                 starts,
                 entries,
                 rosters,
+                tallies,
                 zone,
                 r,
                 out,
@@ -69,6 +72,7 @@ pub fn step(
                 starts,
                 entries,
                 rosters,
+                tallies,
                 zone,
                 out,
             )
@@ -82,6 +86,7 @@ pub fn step(
                 starts,
                 entries,
                 rosters,
+                tallies,
                 car,
                 x,
                 y,
@@ -89,7 +94,18 @@ pub fn step(
             )
         }
         Record::Leave(car) => {
-            leave_record(head, zones, cars, spots, starts, entries, rosters, car, out)
+            leave_record(
+                head,
+                zones,
+                cars,
+                spots,
+                starts,
+                entries,
+                rosters,
+                tallies,
+                car,
+                out,
+            )
         }
         Record::Search(x, y) => {
             search_record(
@@ -100,6 +116,7 @@ pub fn step(
                 starts,
                 entries,
                 rosters,
+                tallies,
                 x,
                 y,
                 out,
@@ -114,6 +131,7 @@ pub fn step(
                 starts,
                 entries,
                 rosters,
+                tallies,
                 zone,
                 out,
             )

@@ -50,10 +50,11 @@ module _ (s : Shape) (Z C E : ℕ) (t : Tables) where
       let d = and→ (eqb (length (t .records .spots)) (2 * C)) _ (c .1) in
       let f = and→ (eqb (length (t .derived .starts)) (squares s + 1)) _ (d .1) in
       let g = and→ (eqb (length (t .derived .entries)) E) _ (f .1) in
-      record { head = eqb-true _ _ (a .0); zones = eqb-true _ _ (b .0); cars = eqb-true _ _ (c .0); spots = eqb-true _ _ (d .0); starts = eqb-true _ _ (f .0); entries = eqb-true _ _ (g .0); rosters = eqb-true _ _ (g .1) }
+      let h = and→ (eqb (length (t .derived .rosters)) (Z * C)) _ (g .1) in
+      record { head = eqb-true _ _ (a .0); zones = eqb-true _ _ (b .0); cars = eqb-true _ _ (c .0); spots = eqb-true _ _ (d .0); starts = eqb-true _ _ (f .0); entries = eqb-true _ _ (g .0); rosters = eqb-true _ _ (h .0); tallies = eqb-true _ _ (h .1) }
 
   pub →long : Long s Z C E t → long s Z C E t ≡ true
-  →long h = rw (eq-eqb _ _ (h .head), eq-eqb _ _ (h .zones), eq-eqb _ _ (h .cars), eq-eqb _ _ (h .spots), eq-eqb _ _ (h .starts), eq-eqb _ _ (h .entries), eq-eqb _ _ (h .rosters))
+  →long h = rw (eq-eqb _ _ (h .head), eq-eqb _ _ (h .zones), eq-eqb _ _ (h .cars), eq-eqb _ _ (h .spots), eq-eqb _ _ (h .starts), eq-eqb _ _ (h .entries), eq-eqb _ _ (h .rosters), eq-eqb _ _ (h .tallies))
 
   pub not-long : (Long s Z C E t → ⊥) → long s Z C E t ≡ false
   not-long f = fails (long s Z C E t) (λ (e : long s Z C E t ≡ true). f (long→ e))
@@ -97,6 +98,7 @@ pub record Short (t : Tables) : Type 0 where
   pub starts : length (t .derived .starts) ≤ 4194304
   pub entries : length (t .derived .entries) ≤ 4194304
   pub rosters : length (t .derived .rosters) ≤ 4194304
+  pub tallies : length (t .derived .tallies) ≤ 4194304
 
 -- lengths that an allowed shape and capacities within the bounds call for are far shorter
 pub lengths-short : (s : Shape) (Z C E : ℕ) (t : Tables) → Allowed s → Roomy Z C E → Long s Z C E t → Short t

@@ -1,15 +1,16 @@
--- What the records give afresh: the entries in use, where each square's list starts, the rosters.
+-- What the records give afresh: the entries in use, where each square's list starts, the rosters, the tallies.
 use Prim.Native.Nat.{ℕ, _+_, _-_, _*_, _/_, _%_, _^_}
 use mathlib.Core.Bool.{Bool, _&&_}
-use mathlib.Core.List.{List, _++_, map}
+use mathlib.Core.List.{List, [], _∷_, _++_, map}
 use lib.Dec.{leb}
-use lib.ListN.{length, replicate}
+use lib.ListN.{length, getD, replicate}
 use Rattle.order.specs.Order.{upto, keep}
 use Rattle.order.specs.Sums.{bit}
 use Rattle.squares.specs.declared.shape.Shape.{Shape}
 use Rattle.squares.specs.Squares.{squares}
 use Rattle.cuts.specs.Cut.{inCut}
-use Rattle.tables.specs.Tables.{Tables, Derived, shapeOf, zoneRoom, carRoom, entryRoom, rectOf, stands, rosterHas}
+use Rattle.model.specs.Model.{roster}
+use Rattle.tables.specs.Tables.{Tables, Derived, tally, shapeOf, zoneRoom, carRoom, entryRoom, rectOf, stands, townOf, rosterHas}
 
 -- ---- places: all squares of a town in one row, level 0 first, rising number within a level
 
@@ -55,7 +56,17 @@ startsOf t = map (λ (p : ℕ). length (keysTo t p)) (upto (squares (shapeOf t) 
 abbrev pub rostersOf : Tables → List ℕ
 rostersOf t = map (λ (i : ℕ). bit (rosterHas t (i / carRoom t) (i % carRoom t))) (upto (zoneRoom t * carRoom t))
 
--- ---- all three
+-- ---- tallies
+
+-- a zone's numbers: how many cars its roster has
+abbrev pub tallyOf : Tables → ℕ → List ℕ
+tallyOf t z = length (roster (townOf t) z) ∷ []
+
+-- zone after zone
+abbrev pub talliesOf : Tables → List ℕ
+talliesOf t = map (λ (i : ℕ). getD (tallyOf t (i / tally)) (i % tally) 0) (upto (zoneRoom t * tally))
+
+-- ---- all four
 
 abbrev pub derivedOf : Tables → Derived
-derivedOf t = record { starts = startsOf t; entries = entriesOf t; rosters = rostersOf t }
+derivedOf t = record { starts = startsOf t; entries = entriesOf t; rosters = rostersOf t; tallies = talliesOf t }

@@ -12,6 +12,7 @@ pub mod CheckLaws
 pub mod RecordLaws
 pub mod PlaceLaws
 pub mod RowLaws
+pub mod TallyLaws
 pub mod RunLaws
 pub mod GatherLaws
 pub mod CountLaws

@@ -10,7 +10,7 @@ use Rattle.squares.specs.Shape.{holds}
 use Rattle.position.specs.Answer.{columnOf, rowOf}
 use Rattle.model.specs.Model.{known, there}
 use Rattle.tables.specs.Tables.{Tables, Derived, shapeOf, rectOf, stands, standsIn, placed, placedIn, spotOf, zoneIn, carIn, zoneHolds, rosterHas}
-use Rattle.tables.specs.Derived.{startsOf, entriesOf, rostersOf}
+use Rattle.tables.specs.Derived.{startsOf, entriesOf, rostersOf, talliesOf}
 use Rattle.tables.specs.Sound.{Sound}
 
 known-if : {A : Type 0} (b : Bool) (a : A) → known (cond b (some a) none) ≡ b
@@ -72,6 +72,9 @@ module _ {t : Tables} (sound : Sound t) where
 
   pub rosters-fresh : t .derived .rosters ≡ rostersOf t
   rosters-fresh = ap (λ (d : Derived). d .rosters) (sound .derived)
+
+  pub tallies-fresh : t .derived .tallies ≡ talliesOf t
+  tallies-fresh = ap (λ (d : Derived). d .tallies) (sound .derived)
 
 -- six numbers written one after the other
 pub head-written : (l : List ℕ) (k P Q Z C E : ℕ) → length l ≡ 6 → set (set (set (set (set (set l 0 k) 1 P) 2 Q) 3 Z) 4 C) 5 E ≡ k ∷ P ∷ Q ∷ Z ∷ C ∷ E ∷ []

@@ -19,6 +19,7 @@ use Rattle.order.specs.BufferLaws.{wrote-none, wrote-more}
 use Rattle.order.specs.KeepLaws.{span-add, keep-append, keep-ext, span→, length-span}
 use Rattle.tables.specs.Tables.{Tables, zoneRoom, carRoom, rosterHas}
 use Rattle.tables.specs.Sizes.{Sized}
+use Rattle.tables.specs.Derived.{rostersOf}
 use Rattle.tables.specs.Sound.{Sound}
 use Rattle.tables.specs.RecordLaws.{rosters-fresh}
 use Rattle.tables.specs.Rows.{marked, row, Adds, RowThere}
@@ -103,11 +104,17 @@ marked-bit : (b : Bool) → ltb 0 (bit b) ≡ b
 marked-bit true = refl
 marked-bit false = refl
 
-pub roster-byte : (t : Tables) → Sound t → (z c : ℕ) → z < zoneRoom t → c < carRoom t → getD (t .derived .rosters) (z * carRoom t + c) 0 ≡ bit (rosterHas t z c)
-roster-byte t h z c g l =
-    ap (λ (l : List ℕ). getD l (z * carRoom t + c) 0) (rosters-fresh h)
-    ∙ map-span (λ (i : ℕ). bit (rosterHas t (i / carRoom t) (i % carRoom t))) 0 0 (zoneRoom t * carRoom t) (z * carRoom t + c) (digits-lt g l)
-    ∙ rw (zero-add (z * carRoom t + c), digits-div z l, digits-mod z l)
+-- rosters that are what the records give
+module _ (t : Tables) (right : t .derived .rosters ≡ rostersOf t) (z : ℕ) (there : z < zoneRoom t) where
+  right-byte : (c : ℕ) → c < carRoom t → getD (t .derived .rosters) (z * carRoom t + c) 0 ≡ bit (rosterHas t z c)
+  right-byte c l = mapped-at (t .derived .rosters) (λ (i : ℕ). bit (rosterHas t (i / carRoom t) (i % carRoom t))) (zoneRoom t * carRoom t) (z * carRoom t + c) right (digits-lt there l) ∙ rw (digits-div z l, digits-mod z l)
 
-pub sound-row : (t : Tables) → Sound t → (z : ℕ) → z < zoneRoom t → row (t .derived .rosters) (z * carRoom t) (carRoom t) ≡ keep (rosterHas t z) (upto (carRoom t))
-sound-row t h z g = keep-ext (marked (t .derived .rosters) (z * carRoom t)) (rosterHas t z) (upto (carRoom t)) (λ c m. ap (ltb 0) (roster-byte t h z c g (omega (arith, span→ 0 (carRoom t) c m))) ∙ marked-bit (rosterHas t z c))
+  pub right-row : row (t .derived .rosters) (z * carRoom t) (carRoom t) ≡ keep (rosterHas t z) (upto (carRoom t))
+  right-row = keep-ext (marked (t .derived .rosters) (z * carRoom t)) (rosterHas t z) (upto (carRoom t)) (λ c m. ap (ltb 0) (right-byte c (omega (arith, span→ 0 (carRoom t) c m))) ∙ marked-bit (rosterHas t z c))
+
+module _ (t : Tables) (h : Sound t) where
+  pub roster-byte : (z c : ℕ) → z < zoneRoom t → c < carRoom t → getD (t .derived .rosters) (z * carRoom t + c) 0 ≡ bit (rosterHas t z c)
+  roster-byte z c g l = right-byte t (rosters-fresh h) z g c l
+
+  pub sound-row : (z : ℕ) → z < zoneRoom t → row (t .derived .rosters) (z * carRoom t) (carRoom t) ≡ keep (rosterHas t z) (upto (carRoom t))
+  sound-row z g = right-row t (rosters-fresh h) z g

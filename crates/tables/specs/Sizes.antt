@@ -6,7 +6,7 @@ use Rattle.squares.specs.declared.shape.Shape.{Shape}
 use Rattle.squares.specs.Shape.{mostZones, mostCars, mostEntries}
 use Rattle.squares.specs.Bounds.{Allowed}
 use Rattle.squares.specs.Squares.{squares}
-use Rattle.tables.specs.Tables.{Tables, shapeOf, zoneRoom, carRoom, entryRoom}
+use Rattle.tables.specs.Tables.{Tables, tally, shapeOf, zoneRoom, carRoom, entryRoom}
 
 -- the capacities of zones, cars and entries, Z, C and E, are within the bounds
 pub record Roomy (Z C E : ℕ) : Type 0 where
@@ -26,6 +26,7 @@ pub record Long (s : Shape) (Z C E : ℕ) (t : Tables) : Type 0 where
   pub starts : length (t .derived .starts) ≡ squares s + 1
   pub entries : length (t .derived .entries) ≡ E
   pub rosters : length (t .derived .rosters) ≡ Z * C
+  pub tallies : length (t .derived .tallies) ≡ Z * tally
 
 -- check 3 passes: what head says is within the bounds, and each table has its length
 pub record Sized (t : Tables) : Type 0 where

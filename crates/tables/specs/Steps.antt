@@ -8,7 +8,7 @@ use Rattle.squares.specs.declared.shape.Rect.{Rect}
 use Rattle.squares.specs.Squares.{squares}
 use Rattle.position.specs.declared.Position.{Position}
 use Rattle.model.specs.Model.{Opening, Change, emptied, zoneOn, zoneOff, carAt, carOff, nothing}
-use Rattle.tables.specs.Tables.{Tables, tables, headOf}
+use Rattle.tables.specs.Tables.{Tables, tables, tally, headOf}
 use Rattle.tables.specs.Derived.{derivedOf, free}
 
 -- a town with no zone and no car
@@ -22,6 +22,7 @@ emptyTown o =
     (replicate (squares (o .shape) + 1) 0)
     (replicate (o .entries) free)
     (replicate (o .zones * o .cars) 0)
+    (replicate (o .zones * tally) 0)
 
 -- what is derived worked out afresh
 abbrev pub fresh : Tables → Tables

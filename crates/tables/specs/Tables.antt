@@ -21,14 +21,19 @@ pub record Derived : Type 0 where
   pub starts : List ℕ
   pub entries : List ℕ
   pub rosters : List ℕ
+  pub tallies : List ℕ
 
 pub record Tables : Type 0 where
   pub records : Records
   pub derived : Derived
 
--- all seven, in the order in which they are lent
-abbrev pub tables : List ℕ → List ℕ → List ℕ → List Float → List ℕ → List ℕ → List ℕ → Tables
-tables h z c p s e r = record { records = record { head = h; zones = z; cars = c; spots = p }; derived = record { starts = s; entries = e; rosters = r } }
+-- all eight, in the order in which they are lent
+abbrev pub tables : List ℕ → List ℕ → List ℕ → List Float → List ℕ → List ℕ → List ℕ → List ℕ → Tables
+tables h z c p s e r n = record { records = record { head = h; zones = z; cars = c; spots = p }; derived = record { starts = s; entries = e; rosters = r; tallies = n } }
+
+-- how many numbers a zone has in tallies
+abbrev pub tally : ℕ
+tally = 1
 
 -- ---- what head says
 

@@ -3,6 +3,7 @@ use crate::records::car_room;
 use crate::records::entry_room;
 use crate::records::shape_in;
 use crate::records::zone_room;
+use crate::tallies::TALLY;
 use squares::Shape;
 ghost use mathlib.Core.Path.{_≡_};
 ghost use Rattle.squares.specs.Bounds.{Allowed};
@@ -49,10 +50,11 @@ pub fn long(
     starts: &[u32],
     entries: &[u32],
     rosters: &[u8],
+    tallies: &[u32],
 ) -> bool
     requires { ⌜ Allowed s ⌝ }
     requires { ⌜ Roomy Z C E ⌝ }
-    ensures { λ r. ⌜ r ≡ long s Z C E (lent head zones cars spots starts entries rosters .entry) ⌝ }
+    ensures { λ r. ⌜ r ≡ long s Z C E (lent head zones cars spots starts entries rosters tallies .entry) ⌝ }
 {
     let many_zones = Z as usize;
     let many_cars = C as usize;
@@ -77,6 +79,9 @@ pub fn long(
     if rosters.len() != many_zones * many_cars {
         return false;
     }
+    if tallies.len() != many_zones * TALLY {
+        return false;
+    }
     true
 }
 
@@ -89,8 +94,9 @@ pub fn sized(
     starts: &[u32],
     entries: &[u32],
     rosters: &[u8],
+    tallies: &[u32],
 ) -> bool
-    ensures { λ r. ⌜ r ≡ sized (lent head zones cars spots starts entries rosters .entry) ⌝ }
+    ensures { λ r. ⌜ r ≡ sized (lent head zones cars spots starts entries rosters tallies .entry) ⌝ }
 {
     if head.len() != 6 {
         return false;
@@ -117,5 +123,6 @@ pub fn sized(
         starts,
         entries,
         rosters,
+        tallies,
     )
 }

@@ -5,6 +5,7 @@ mod fill; // fill.rt: a whole table set to one number
 mod places; // places.rt: a square's place among all squares
 mod runs; // runs.rt: the zones on a square's list
 mod rosters; // rosters.rt: a row of the rosters, read
+mod tallies; // tallies.rt: a zone's tally, read
 
 pub use fill::fill_bytes;
 pub use fill::fill_floats;
@@ -26,3 +27,5 @@ pub use records::zone_room;
 pub use rosters::list_cars;
 pub use runs::gather;
 pub use runs::gather_outside;
+pub use tallies::TALLY;
+pub use tallies::count_in;

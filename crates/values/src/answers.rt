@@ -7,6 +7,7 @@ use grid::CutOf;
 use grid::NumberOf;
 use grid::SquareOf;
 use model::Added;
+use model::CountOf;
 use model::Left;
 use model::Opened;
 use model::Removed;
@@ -18,7 +19,7 @@ use model::WhereIs;
 ghost use mathlib.Core.List.{[]};
 ghost use Rattle.squares.specs.Refusals.{fields};
 ghost use Rattle.grid.specs.Promises.{numberIs, squareIs, cutIs};
-ghost use Rattle.model.specs.Answers.{openedIs, addedIs, removedIs, reportedIs, leftIs, searchedIs, rosterIs, whereIs, soundnessIs};
+ghost use Rattle.model.specs.Answers.{openedIs, addedIs, removedIs, reportedIs, leftIs, searchedIs, rosterIs, countIs, whereIs, soundnessIs};
 ghost use Rattle.values.specs.Promises.{said, Tells, Points};
 
 pub fn tell_number(a: NumberOf, values: &mut [u32]) -> u32
@@ -114,6 +115,15 @@ pub fn tell_roster(a: RosterOf, values: &mut [u32]) -> u32
     match a {
         RosterOf::Refused(n) => tell_one(n, 0, values),
         RosterOf::Cars(n) => tell_one(0, n, values),
+    }
+}
+
+pub fn tell_count(a: CountOf, values: &mut [u32]) -> u32
+    ensures { λ r. ⌜ Tells (said 1 (countIs a)) (now (values .entry)) (now (values .exit)) r ⌝ }
+{
+    match a {
+        CountOf::Refused(n) => tell_one(n, 0, values),
+        CountOf::Cars(n) => tell_one(0, n as usize, values),
     }
 }
 

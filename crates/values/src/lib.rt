@@ -3,6 +3,7 @@ mod tell; // tell.rt: a number returned, and values stored
 mod answers; // answers.rt: each call's answer told
 
 pub use answers::tell_added;
+pub use answers::tell_count;
 pub use answers::tell_cut;
 pub use answers::tell_left;
 pub use answers::tell_number;
@@ -14,4 +15,4 @@ pub use answers::tell_searched;
 pub use answers::tell_soundness;
 pub use answers::tell_square;
 pub use answers::tell_where;
-pub use tell::tell_seven;
+pub use tell::tell_eight;

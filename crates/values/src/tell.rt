@@ -46,7 +46,7 @@ pub fn tell_three(r: u32, a: usize, b: usize, c: usize, values: &mut [u32]) -> u
     r
 }
 
-pub fn tell_seven(
+pub fn tell_eight(
     r: u32,
     a: usize,
     b: usize,
@@ -55,9 +55,10 @@ pub fn tell_seven(
     e: usize,
     f: usize,
     g: usize,
+    h: usize,
     values: &mut [u32],
 ) -> u32
-    ensures { λ t. ⌜ Tells (r ∷ a ∷ b ∷ c ∷ d ∷ e ∷ f ∷ g ∷ []) (now (values .entry)) (now (values .exit)) t ⌝ }
+    ensures { λ t. ⌜ Tells (r ∷ a ∷ b ∷ c ∷ d ∷ e ∷ f ∷ g ∷ h ∷ []) (now (values .entry)) (now (values .exit)) t ⌝ }
 {
     tell(values, 0, a);
     tell(values, 1, b);
@@ -66,6 +67,7 @@ pub fn tell_seven(
     tell(values, 4, e);
     tell(values, 5, f);
     tell(values, 6, g);
+    tell(values, 7, h);
     r
 }
 

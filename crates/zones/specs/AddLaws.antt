@@ -6,8 +6,10 @@ use mathlib.Core.Bool.{Bool, true, false}
 use mathlib.Core.List.{List, [], _∷_}
 use native.Mathlib.Omega.{arith}
 use lib.Dec.{leb}
-use lib.ListN.{length, getD}
+use lib.ListN.{length, getD, set}
 use borrow.Author.Tests.{le-leb, lt-leb, ltb-true, not-true}
+use Rattle.order.specs.Order.{upto}
+use Rattle.order.specs.KeepLaws.{length-keep, length-span}
 use Rattle.squares.specs.declared.shape.Shape.{Shape}
 use Rattle.squares.specs.declared.shape.Rect.{Rect}
 use Rattle.squares.specs.Bounds.{Fits}
@@ -20,7 +22,7 @@ use Rattle.squares.specs.RefusalLaws.{clear}
 use Rattle.model.specs.declared.answers.Added.{Added}
 use Rattle.model.specs.Answers.{numbers}
 use Rattle.model.specs.Model.{adding, known, entriesUsed, meaning}
-use Rattle.tables.specs.Tables.{Tables, tables, shapeOf, zoneRoom, carRoom, entryRoom, stands, zoneIn, townOf}
+use Rattle.tables.specs.Tables.{Tables, tables, tally, shapeOf, zoneRoom, carRoom, entryRoom, stands, zoneIn, townOf}
 use Rattle.tables.specs.Sizes.{Sized}
 use Rattle.tables.specs.CheckLaws.{sized→, size-of}
 use Rattle.tables.specs.RecordLaws.{stands-known}
@@ -33,7 +35,7 @@ use Rattle.tables.specs.Sound.{Sound}
 use Rattle.tables.specs.Steps.{withZone}
 use Rattle.tables.specs.Lent.{both}
 use Rattle.entries.specs.Keys.{AddRoom, KeysAdded}
-use Rattle.rosters.specs.Inside.{RowMarked}
+use Rattle.rosters.specs.Inside.{carWithin, RowMarked}
 use Rattle.edits.specs.AddLaws.{added-is, cars-added}
 use Rattle.promises.specs.Promise.{means, bars, Keeps}
 use Rattle.promises.specs.Events.{added}
@@ -57,6 +59,9 @@ module _ {t : Tables} {z : ℕ} {r : Rect} (h : New t z r) where
   pub record-there : 4 * z + 4 ≤ length (t .records .zones)
   record-there = omega (arith, h .size .lengths .zones, h .zone)
 
+  pub count-there : z * tally < length (t .derived .tallies)
+  count-there = omega (arith, h .size .lengths .tallies, h .zone)
+
   -- with the shape as it was read
   module _ {s : Shape} (shape : s ≡ shapeOf t) where
     pub cut-room : AllRoom s r
@@ -74,6 +79,10 @@ module _ {t : Tables} {z : ℕ} {r : Rect} (h : New t z r) where
 
     pub row-there : {many : ℕ} → many ≡ carRoom t → Parked s (t .records .cars) (t .records .spots) many × (RowThere (t .derived .rosters) z many × Fits s r)
     row-there e = rw (shape, e) (record { shape = h .size .shape; many = h .size .lengths .cars; pairs = h .size .lengths .spots; some = h .size .room .cars-some; few = h .size .room .cars-few }, (row-in t (h .size) z (h .zone), h .fit))
+
+    -- no more cars than there are
+    pub inside-few : {many inside : ℕ} {m : List ℕ} → many ≡ carRoom t → RowMarked s (t .records .cars) (t .records .spots) r (t .derived .rosters) m z many inside → inside ≤ 1024
+    inside-few {many} e k = omega (arith, k .count, length-keep (carWithin s (t .records .cars) (t .records .spots) r) (upto many), length-span 0 many, h .size .room .cars-few)
 
     -- the last start read and the squares counted
     module _ {u n : ℕ} (last : u ≡ getD (t .derived .starts) (length (t .derived .starts) - 1) 0) (count : n ≡ length (cut s r)) where
@@ -93,10 +102,10 @@ module _ {t : Tables} {z : ℕ} {r : Rect} (h : New t z r) where
       unfolding meaning first
       add-full l = keeps-late t (adding z r) _ 11 (h .none) (inl refl) refl (λ any sound. rw (room-is sound ∙ lt-leb (u + n) (length (t .derived .entries)) l))
 
-      pub add-kept : u + n ≤ length (t .derived .entries) → {w b e m : List ℕ} {many inside : ℕ} → many ≡ carRoom t → w ≡ withZone (t .records .zones) z r → KeysAdded s r z u (t .derived .starts) b (t .derived .entries) e → RowMarked s (t .records .cars) (t .records .spots) r (t .derived .rosters) m z many inside → Keeps (both t (tables (t .records .head) w (t .records .cars) (t .records .spots) b e m)) (added z r (Added.Done n inside))
+      pub add-kept : u + n ≤ length (t .derived .entries) → {w b e m n′ : List ℕ} {many inside : ℕ} → many ≡ carRoom t → w ≡ withZone (t .records .zones) z r → KeysAdded s r z u (t .derived .starts) b (t .derived .entries) e → RowMarked s (t .records .cars) (t .records .spots) r (t .derived .rosters) m z many inside → n′ ≡ set (t .derived .tallies) (z * tally) inside → Keeps (both t (tables (t .records .head) w (t .records .cars) (t .records .spots) b e m n′)) (added z r (Added.Done n inside))
       unfolding meaning first
-      add-kept l {w} {b} {e} {m} {inside = i} room ew ek em = keeps-done t (adding z r) _ _ (numbers (n ∷ i ∷ [])) (h .none) refl
-          (λ any sound. (rw (room-is sound ∙ le-leb (u + n) (length (t .derived .entries)) l), (rw (cut-is, row .count ∙ cars-added t sound z (h .zone) (h .down) r (h .fit)), rw (ew, row .written) (added-is t sound z (h .zone) (h .down) r (h .fit) b e (rw (shape, in-use sound ∙ sym (count-used t (size-of sound))) at ek)))))
+      add-kept l {w} {b} {e} {m} {n′} {inside = i} room ew ek em en = keeps-done t (adding z r) _ _ (numbers (n ∷ i ∷ [])) (h .none) refl
+          (λ any sound. (rw (room-is sound ∙ le-leb (u + n) (length (t .derived .entries)) l), (rw (cut-is, row .count ∙ cars-added t sound z (h .zone) (h .down) r (h .fit)), rw (ew, row .written, en, row .count) (added-is t sound z (h .zone) (h .down) r (h .fit) b e (rw (shape, in-use sound ∙ sym (count-used t (size-of sound))) at ek)))))
         where
           row : RowMarked (shapeOf t) (t .records .cars) (t .records .spots) r (t .derived .rosters) m z (carRoom t) i
           row = rw (shape, room) at em

@@ -16,12 +16,13 @@ fn refuse_new(
     starts: &[u32],
     entries: &[u32],
     rosters: &[u8],
+    tallies: &[u32],
     zone: u32,
     r: Rect,
 ) -> u32
-    ensures { λ n. ⌜ n ≡ bars (lent head zones cars spots starts entries rosters .entry) (adding zone r) ⌝ }
+    ensures { λ n. ⌜ n ≡ bars (lent head zones cars spots starts entries rosters tallies .entry) (adding zone r) ⌝ }
 {
-    if !tables::sized(head, zones, cars, spots, starts, entries, rosters) {
+    if !tables::sized(head, zones, cars, spots, starts, entries, rosters, tallies) {
         return 3;
     }
     if tables::zone_room(head) <= zone {
@@ -45,12 +46,24 @@ pub fn add_zone(
     starts: &mut [u32],
     entries: &mut [u32],
     rosters: &mut [u8],
+    tallies: &mut [u32],
     zone: u32,
     r: Rect,
 ) -> Added
-    ensures { λ r'. ⌜ Keeps (lent head zones cars spots starts entries rosters) (added zone r r') ⌝ }
+    ensures { λ r'. ⌜ Keeps (lent head zones cars spots starts entries rosters tallies) (added zone r r') ⌝ }
 {
-    let refusal = refuse_new(head, zones, cars, spots, starts, entries, rosters, zone, r);
+    let refusal = refuse_new(
+        head,
+        zones,
+        cars,
+        spots,
+        starts,
+        entries,
+        rosters,
+        tallies,
+        zone,
+        r,
+    );
     if refusal != 0 {
         return Added::Refused(refusal);
     }
@@ -65,5 +78,6 @@ pub fn add_zone(
     edits::write_zone(zones, z, r);
     entries::add_keys(s, r, zone, used, starts, entries);
     let inside = rosters::fill_row(s, cars, spots, r, rosters, z, many);
+    tallies::write_count(tallies, z, inside as u32);
     Added::Done(n, inside)
 }

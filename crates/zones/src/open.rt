@@ -22,8 +22,9 @@ fn refuse_open(
     starts: &[u32],
     entries: &[u32],
     rosters: &[u8],
+    tallies: &[u32],
 ) -> u32
-    ensures { λ r. ⌜ r ≡ bars (lent head zones cars spots starts entries rosters .entry) (opening (asked k P Q Z C E)) ⌝ }
+    ensures { λ r. ⌜ r ≡ bars (lent head zones cars spots starts entries rosters tallies .entry) (opening (asked k P Q Z C E)) ⌝ }
 {
     let Shaped::Allowed(s) = Shape::new(k, P, Q) else {
         return 1;
@@ -43,6 +44,7 @@ fn refuse_open(
         starts,
         entries,
         rosters,
+        tallies,
     ) {
         return 3;
     }
@@ -59,6 +61,7 @@ pub fn open_town(
     starts: &mut [u32],
     entries: &mut [u32],
     rosters: &mut [u8],
+    tallies: &mut [u32],
     k: u32,
     P: u32,
     Q: u32,
@@ -66,7 +69,7 @@ pub fn open_town(
     C: u32,
     E: u32,
 ) -> Opened
-    ensures { λ r. ⌜ Keeps (lent head zones cars spots starts entries rosters) (opened (asked k P Q Z C E) r) ⌝ }
+    ensures { λ r. ⌜ Keeps (lent head zones cars spots starts entries rosters tallies) (opened (asked k P Q Z C E) r) ⌝ }
 {
     let refusal = refuse_open(
         k,
@@ -82,6 +85,7 @@ pub fn open_town(
         starts,
         entries,
         rosters,
+        tallies,
     );
     if refusal != 0 {
         return Opened::Refused(refusal);
@@ -93,5 +97,6 @@ pub fn open_town(
     tables::fill_words(starts, 0);
     tables::fill_words(entries, 0xFFFF_FFFF);
     tables::fill_bytes(rosters, 0);
+    tables::fill_words(tallies, 0);
     Opened::Done
 }

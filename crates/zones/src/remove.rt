@@ -13,11 +13,22 @@ pub fn remove_zone(
     starts: &mut [u32],
     entries: &mut [u32],
     rosters: &mut [u8],
+    tallies: &mut [u32],
     zone: u32,
 ) -> Removed
-    ensures { λ r. ⌜ Keeps (lent head zones cars spots starts entries rosters) (removed zone r) ⌝ }
+    ensures { λ r. ⌜ Keeps (lent head zones cars spots starts entries rosters tallies) (removed zone r) ⌝ }
 {
-    let refusal = promises::refuse_zone(head, zones, cars, spots, starts, entries, rosters, zone);
+    let refusal = promises::refuse_zone(
+        head,
+        zones,
+        cars,
+        spots,
+        starts,
+        entries,
+        rosters,
+        tallies,
+        zone,
+    );
     if refusal != 0 {
         return Removed::Refused(refusal);
     }
@@ -26,5 +37,6 @@ pub fn remove_zone(
     edits::clear_zone(zones, z);
     entries::drop_keys(starts, entries, zone);
     rosters::clear_row(rosters, z, many);
+    tallies::write_count(tallies, z, 0);
     Removed::Done
 }

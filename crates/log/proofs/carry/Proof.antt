@@ -10,21 +10,21 @@ use Rattle.log.proofs.carry.Statement.{statement}
 use Rattle.log.proofs.carry.Tie as tie
 
 abbrev Inv-loop : tie.InvT-loop
-Inv-loop head₀ zones₀ cars₀ spots₀ starts₀ entries₀ rosters₀ piece held₀ out₀ at₀ read₀ head zones cars spots starts entries rosters held out at read = Carrying (tables head₀ zones₀ cars₀ spots₀ starts₀ entries₀ rosters₀) (tables head zones cars spots starts entries rosters) piece held₀ held out₀ out at read
+Inv-loop head₀ zones₀ cars₀ spots₀ starts₀ entries₀ rosters₀ tallies₀ piece held₀ out₀ at₀ read₀ head zones cars spots starts entries rosters tallies held out at read = Carrying (tables head₀ zones₀ cars₀ spots₀ starts₀ entries₀ rosters₀ tallies₀) (tables head zones cars spots starts entries rosters tallies) piece held₀ held out₀ out at read
 
 abbrev μ-loop : tie.MeasureT-loop
-μ-loop head₀ zones₀ cars₀ spots₀ starts₀ entries₀ rosters₀ piece held₀ out₀ at₀ read₀ head zones cars spots starts entries rosters held out at read = length piece - at + read
+μ-loop head₀ zones₀ cars₀ spots₀ starts₀ entries₀ rosters₀ tallies₀ piece held₀ out₀ at₀ read₀ head zones cars spots starts entries rosters tallies held out at read = length piece - at + read
 
 -- ---- stations: from each an earlier one
 
-abbrev begun : tie.After-slice-known9 Inv-loop μ-loop → tie.Start Inv-loop μ-loop
-begun c = c .before .before .before .before .before .before .before .before .before .before
+abbrev begun : tie.After-slice-known10 Inv-loop μ-loop → tie.Start Inv-loop μ-loop
+begun c = c .before .before .before .before .before .before .before .before .before .before .before
 
 abbrev turn : tie.After-answer-piece Inv-loop μ-loop → tie.In-loop Inv-loop μ-loop
-turn c = c .before .before .before .before .before .before .before .before .before .before .before
+turn c = c .before .before .before .before .before .before .before .before .before .before .before .before
 
 abbrev called : tie.After-put-arg Inv-loop μ-loop → tie.After-answer-piece Inv-loop μ-loop
-called c = c .before .before .before .before .before .before .before .before .before .before .before .before .before .before .before .before .before .before .before
+called c = c .before .before .before .before .before .before .before .before .before .before .before .before .before .before .before .before .before .before .before .before .before
 
 abbrev done : tie.After-many Inv-loop μ-loop → tie.After-answer-piece Inv-loop μ-loop
 done c = called (c .before .before)
@@ -47,13 +47,13 @@ answer-piece-requires : tie.Need-answer-piece-requires Inv-loop μ-loop
 answer-piece-requires c κs = search needs
 
 put-requires : tie.Need-put-requires Inv-loop μ-loop
-put-requires c κs = filled-within _ _ (turn (called c) .before .loop .inv .carries) (called c .answer-piece .ensures) (called c .answer-piece .kept .1 .1 .1 .1 .1 .1 .1 .1 .1 .0)
+put-requires c κs = filled-within _ _ (turn (called c) .before .loop .inv .carries) (called c .answer-piece .ensures) (called c .answer-piece .kept .1 .1 .1 .1 .1 .1 .1 .1 .1 .1 .0)
 
 many-requires : tie.Need-many-requires Inv-loop μ-loop
 many-requires c κs = search needs
 
 loop-again : tie.Need-loop-again Inv-loop μ-loop
-loop-again c = carry-turns (c .before .put .result) (turn (done c) .before .loop .inv) (turn (done c) .loop-test .taken) (done c .answer-piece .ensures) (c .before .put .ensures) (done c .answer-piece .kept .1 .1 .1 .1 .1 .1 .1 .1 .1 .0) (c .many .ensures)
+loop-again c = carry-turns (c .before .put .result) (turn (done c) .before .loop .inv) (turn (done c) .loop-test .taken) (done c .answer-piece .ensures) (c .before .put .ensures) (done c .answer-piece .kept .1 .1 .1 .1 .1 .1 .1 .1 .1 .1 .0) (c .many .ensures)
 
 add-at : tie.Need-add-at Inv-loop μ-loop
 add-at c = omega (arith, loop-again c .within, begun (turn (done c) .before .before) .good)
@@ -83,10 +83,13 @@ same-length-7 : tie.Need-same-length-7 Inv-loop μ-loop
 same-length-7 c = c .before .loop .inv .carries .ready .room .rosters ∙ sym (c .before .loop .inv .began .ready .room .rosters)
 
 same-length-8 : tie.Need-same-length-8 Inv-loop μ-loop
-same-length-8 c = carries-long (c .before .loop .inv .carries) ∙ sym (carries-long (c .before .loop .inv .began))
+same-length-8 c = c .before .loop .inv .carries .ready .room .tallies ∙ sym (c .before .loop .inv .began .ready .room .tallies)
 
 same-length-9 : tie.Need-same-length-9 Inv-loop μ-loop
-same-length-9 c = c .before .loop .inv .wide
+same-length-9 c = carries-long (c .before .loop .inv .carries) ∙ sym (carries-long (c .before .loop .inv .began))
+
+same-length-10 : tie.Need-same-length-10 Inv-loop μ-loop
+same-length-10 c = c .before .loop .inv .wide
 
 returns : tie.Need-returns Inv-loop μ-loop
 returns c = carry-ends (c .before .loop .inv)
@@ -116,4 +119,5 @@ carry-spec =
     same-length-7
     same-length-8
     same-length-9
+    same-length-10
     returns)

@@ -11,33 +11,33 @@ use Rattle.log.proofs.main.Statement.{statement}
 use Rattle.log.proofs.main.Tie as tie
 
 abbrev Inv-loop : tie.InvT-loop
-Inv-loop head₀ zones₀ cars₀ spots₀ starts₀ entries₀ rosters₀ piece₀ held₀ out₀ turns₀ ending₀ head zones cars spots starts entries rosters piece held out turns ending = Running (tables head zones cars spots starts entries rosters) piece held out
+Inv-loop head₀ zones₀ cars₀ spots₀ starts₀ entries₀ rosters₀ tallies₀ piece₀ held₀ out₀ turns₀ ending₀ head zones cars spots starts entries rosters tallies piece held out turns ending = Running (tables head zones cars spots starts entries rosters tallies) piece held out
 
 abbrev μ-loop : tie.MeasureT-loop
-μ-loop head₀ zones₀ cars₀ spots₀ starts₀ entries₀ rosters₀ piece₀ held₀ out₀ turns₀ ending₀ head zones cars spots starts entries rosters piece held out turns ending = turns
+μ-loop head₀ zones₀ cars₀ spots₀ starts₀ entries₀ rosters₀ tallies₀ piece₀ held₀ out₀ turns₀ ending₀ head zones cars spots starts entries rosters tallies piece held out turns ending = turns
 
 -- ---- stations: from each an earlier one
 
 abbrev turn : tie.After-many Inv-loop μ-loop → tie.In-loop Inv-loop μ-loop
 turn c = c .before .before .before .before
 
-abbrev lending : tie.After-rosters Inv-loop μ-loop → tie.After-many Inv-loop μ-loop
-lending c = c .before .before .before .before .before .before .before
+abbrev lending : tie.After-tallies Inv-loop μ-loop → tie.After-many Inv-loop μ-loop
+lending c = c .before .before .before .before .before .before .before .before
 
 abbrev lent : tie.After-out Inv-loop μ-loop → tie.After-many Inv-loop μ-loop
 lent c = lending (c .before .before .before)
 
 abbrev carried : tie.After-stopped Inv-loop μ-loop → tie.After-carry Inv-loop μ-loop
-carried c = c .before .before .before .before .before .before .before .before .before .before
+carried c = c .before .before .before .before .before .before .before .before .before .before .before
 
 abbrev over : tie.After-head3 Inv-loop μ-loop → tie.At-loop Inv-loop μ-loop
 over c = c .before .before .before .before
 
 abbrev last : tie.After-out3 Inv-loop μ-loop → tie.At-loop Inv-loop μ-loop
-last c = over (c .before .before .before .before .before .before .before .before)
+last c = over (c .before .before .before .before .before .before .before .before .before)
 
 abbrev said : tie.After-out5 Inv-loop μ-loop → tie.After-answer-end Inv-loop μ-loop
-said c = c .before .before .before .before .before .before .before .before .before .before
+said c = c .before .before .before .before .before .before .before .before .before .before .before
 
 -- the bytes that were read are of the piece
 within : (c : tie.After-many Inv-loop μ-loop) → c .many .result ≤ length (c .before .before .read-some .last .0)
@@ -78,17 +78,20 @@ slice-aggregate-carry-6 c = sym (turn (c .before .before .before .before .before
 slice-aggregate-carry-7 : tie.Need-slice-aggregate-carry-7 Inv-loop μ-loop
 slice-aggregate-carry-7 c = sym (turn (c .before .before .before .before .before .before .before) .before .loop .inv .carries .ready .room .rosters)
 
+slice-aggregate-carry-8 : tie.Need-slice-aggregate-carry-8 Inv-loop μ-loop
+slice-aggregate-carry-8 c = sym (turn (c .before .before .before .before .before .before .before .before) .before .loop .inv .carries .ready .room .tallies)
+
 array-share-prefix-piece : tie.Need-array-share-prefix-piece Inv-loop μ-loop
 array-share-prefix-piece c = within (lending c)
 
-slice-aggregate-carry-8 : tie.Need-slice-aggregate-carry-8 Inv-loop μ-loop
-slice-aggregate-carry-8 c = count-front _ _ (within (lending (c .before)))
-
 slice-aggregate-carry-9 : tie.Need-slice-aggregate-carry-9 Inv-loop μ-loop
-slice-aggregate-carry-9 c = sym (carries-long (turn (lending (c .before .before)) .before .loop .inv .carries))
+slice-aggregate-carry-9 c = count-front _ _ (within (lending (c .before)))
 
 slice-aggregate-carry-10 : tie.Need-slice-aggregate-carry-10 Inv-loop μ-loop
-slice-aggregate-carry-10 c = turn (lent c) .before .loop .inv .wide
+slice-aggregate-carry-10 c = sym (carries-long (turn (lending (c .before .before)) .before .loop .inv .carries))
+
+slice-aggregate-carry-11 : tie.Need-slice-aggregate-carry-11 Inv-loop μ-loop
+slice-aggregate-carry-11 c = turn (lent c) .before .loop .inv .wide
 
 carry-requires : tie.Need-carry-requires Inv-loop μ-loop
 carry-requires c κs = turn (lent c) .before .loop .inv .carries
@@ -103,7 +106,7 @@ loop-less : tie.Need-loop-less Inv-loop μ-loop
 loop-less c = c .turns-left .ensures
 
 loop-again : tie.Need-loop-again Inv-loop μ-loop
-loop-again c = run-turns (turn (lent (carried (c .before) .before)) .before .loop .inv) (carried (c .before) .carry .ensures) (carried (c .before) .carry .kept .1 .1 .1 .1 .1 .1 .1 .1 .1 .0) (lent (carried (c .before) .before) .before .before .read-some .kept .0)
+loop-again c = run-turns (turn (lent (carried (c .before) .before)) .before .loop .inv) (carried (c .before) .carry .ensures) (carried (c .before) .carry .kept .1 .1 .1 .1 .1 .1 .1 .1 .1 .1 .0) (lent (carried (c .before) .before) .before .before .read-some .kept .0)
 
 enum-told : tie.Need-enum-told Inv-loop μ-loop
 enum-told c = search needs
@@ -136,19 +139,22 @@ slice-aggregate-answer-end-7 : tie.Need-slice-aggregate-answer-end-7 Inv-loop μ
 slice-aggregate-answer-end-7 c = sym (over (c .before .before .before .before .before .before) .loop .inv .carries .ready .room .rosters)
 
 slice-aggregate-answer-end-8 : tie.Need-slice-aggregate-answer-end-8 Inv-loop μ-loop
-slice-aggregate-answer-end-8 c = sym (carries-long (over (c .before .before .before .before .before .before .before) .loop .inv .carries))
+slice-aggregate-answer-end-8 c = sym (over (c .before .before .before .before .before .before .before) .loop .inv .carries .ready .room .tallies)
 
 slice-aggregate-answer-end-9 : tie.Need-slice-aggregate-answer-end-9 Inv-loop μ-loop
-slice-aggregate-answer-end-9 c = last c .loop .inv .wide
+slice-aggregate-answer-end-9 c = sym (carries-long (over (c .before .before .before .before .before .before .before .before) .loop .inv .carries))
+
+slice-aggregate-answer-end-10 : tie.Need-slice-aggregate-answer-end-10 Inv-loop μ-loop
+slice-aggregate-answer-end-10 c = last c .loop .inv .wide
 
 answer-end-requires : tie.Need-answer-end-requires Inv-loop μ-loop
 answer-end-requires c κs = search needs
 
 slice-aggregate-put : tie.Need-slice-aggregate-put Inv-loop μ-loop
-slice-aggregate-put c = last (said c .before) .loop .inv .wide ∙ sym (said c .answer-end .kept .1 .1 .1 .1 .1 .1 .1 .1 .0)
+slice-aggregate-put c = last (said c .before) .loop .inv .wide ∙ sym (said c .answer-end .kept .1 .1 .1 .1 .1 .1 .1 .1 .1 .0)
 
 put-requires : tie.Need-put-requires Inv-loop μ-loop
-put-requires c κs = filled-within _ _ (last (said c .before) .loop .inv .carries) (said c .answer-end .ensures) (said c .answer-end .kept .1 .1 .1 .1 .1 .1 .1 .1 .0)
+put-requires c κs = filled-within _ _ (last (said c .before) .loop .inv .carries) (said c .answer-end .ensures) (said c .answer-end .kept .1 .1 .1 .1 .1 .1 .1 .1 .1 .0)
 
 ended-requires : tie.Need-ended-requires Inv-loop μ-loop
 ended-requires c κs = search needs
@@ -176,10 +182,11 @@ main-spec =
     slice-aggregate-carry-5
     slice-aggregate-carry-6
     slice-aggregate-carry-7
-    array-share-prefix-piece
     slice-aggregate-carry-8
+    array-share-prefix-piece
     slice-aggregate-carry-9
     slice-aggregate-carry-10
+    slice-aggregate-carry-11
     carry-requires
     stopped-requires
     turns-left-requires
@@ -197,6 +204,7 @@ main-spec =
     slice-aggregate-answer-end-7
     slice-aggregate-answer-end-8
     slice-aggregate-answer-end-9
+    slice-aggregate-answer-end-10
     answer-end-requires
     slice-aggregate-put
     put-requires

@@ -10,6 +10,8 @@ pub trait Engine {
     fn report(&mut self, car: u32, at: Position) -> (&[u32], &[u32]);
     fn search(&mut self, at: Position) -> &[u32];
     fn roster(&mut self, zone: u32) -> &[u32];
+    /// How many cars are in a zone.
+    fn count(&self, zone: u32) -> u32;
     fn clear(&mut self);
 }
 
@@ -38,6 +40,10 @@ impl Engine for Library {
 
     fn roster(&mut self, zone: u32) -> &[u32] {
         self.0.roster(zone).expect(ACCEPTED)
+    }
+
+    fn count(&self, zone: u32) -> u32 {
+        self.0.count(zone).expect(ACCEPTED)
     }
 
     fn clear(&mut self) {
@@ -153,6 +159,12 @@ impl Base {
         &self.inside
     }
 
+    /// The rivals keep no count: they add up the roster's bytes.
+    fn count(&self, zone: u32) -> u32 {
+        let cars = self.room.cars as usize;
+        self.rosters[zone as usize * cars..][..cars].iter().map(|&has| has as u32).sum()
+    }
+
     fn clear(&mut self) {
         self.zones.fill(NOWHERE);
         self.cars.fill(AWAY);
@@ -217,6 +229,10 @@ impl Engine for Scan {
 
     fn roster(&mut self, zone: u32) -> &[u32] {
         self.0.roster(zone)
+    }
+
+    fn count(&self, zone: u32) -> u32 {
+        self.0.count(zone)
     }
 
     fn clear(&mut self) {
@@ -298,6 +314,10 @@ impl Engine for Cells {
 
     fn roster(&mut self, zone: u32) -> &[u32] {
         self.base.roster(zone)
+    }
+
+    fn count(&self, zone: u32) -> u32 {
+        self.base.count(zone)
     }
 
     fn clear(&mut self) {
@@ -490,6 +510,10 @@ impl Engine for Squares {
 
     fn roster(&mut self, zone: u32) -> &[u32] {
         self.base.roster(zone)
+    }
+
+    fn count(&self, zone: u32) -> u32 {
+        self.base.count(zone)
     }
 
     fn clear(&mut self) {

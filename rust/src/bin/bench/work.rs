@@ -21,8 +21,16 @@ pub const PLANS: [Plan; 2] = [
 ];
 
 /// The calls that are measured, in the order of the columns' values.
-pub const CALLS: [&str; 7] =
-    ["report, another cell", "report, nine of ten in the same cell", "search", "add", "remove", "roster", "open"];
+pub const CALLS: [&str; 8] = [
+    "report, another cell",
+    "report, nine of ten in the same cell",
+    "search",
+    "add",
+    "remove",
+    "roster",
+    "open",
+    "count",
+];
 
 pub const ENGINES: [&str; 4] = ["library", "scan", "cells", "by hand"];
 
@@ -30,12 +38,13 @@ const ROUNDS: usize = 9;
 const REPORTS: usize = 100_000;
 const SEARCHES: usize = 50_000;
 const ROSTERS: usize = 20;
+const COUNTS: usize = 20;
 const OPENS: usize = 10;
 /// How many calls are timed together.
 const BATCH: usize = 1_000;
 
 /// Nanoseconds a call, for each call and engine.
-pub type Times = [[f64; 4]; 7];
+pub type Times = [[f64; 4]; 8];
 
 pub struct Measured {
     pub plan: Plan,
@@ -196,6 +205,20 @@ fn rosters(engine: &mut impl Engine, work: &Work, best: &mut Best) {
     }
 }
 
+/// All zones in turn, again and again within a batch: one count is short beside a look at the clock.
+fn counts(engine: &mut impl Engine, work: &Work, best: &mut Best) {
+    let times = BATCH / work.zones.len() + 1;
+    for _ in 0..COUNTS {
+        let began = Instant::now();
+        for _ in 0..times {
+            for &(zone, _) in &work.zones {
+                black_box(engine.count(zone));
+            }
+        }
+        best.note(began, times * work.zones.len());
+    }
+}
+
 fn opens(engine: &mut impl Engine, work: &Work, best: &mut Best) {
     for _ in 0..OPENS {
         let began = Instant::now();
@@ -208,14 +231,15 @@ fn opens(engine: &mut impl Engine, work: &Work, best: &mut Best) {
 }
 
 /// One round of all calls.
-fn round(engine: &mut impl Engine, work: &Work, best: &mut [Best; 7]) {
+fn round(engine: &mut impl Engine, work: &Work, best: &mut [Best; 8]) {
     best.iter_mut().for_each(Best::again);
-    let [far, near, search, add, remove, roster, open] = best;
+    let [far, near, search, add, remove, roster, open, count] = best;
     reports(engine, work, &work.far, far);
     reports(engine, work, &work.near, near);
     searches(engine, work, search);
     zones(engine, work, add, remove);
     rosters(engine, work, roster);
+    counts(engine, work, count);
     opens(engine, work, open);
 }
 
@@ -257,6 +281,9 @@ impl Engines {
             assert_eq!(answer, scan.roster(zone), "library and scan, a roster");
             assert_eq!(answer, cells.roster(zone), "library and cells, a roster");
             assert_eq!(answer, squares.roster(zone), "library and by hand, a roster");
+            let many = answer.len() as u32;
+            let counts = [library.count(zone), scan.count(zone), cells.count(zone), squares.count(zone)];
+            assert_eq!(counts, [many; 4], "roster and counts");
         }
         assert!(library.0.is_sound(), "the library's tables are sound");
     }
@@ -290,7 +317,7 @@ pub fn measure(plan: Plan, k: u32, seed: u64) -> Measured {
     work.fill(&mut engines.cells);
     work.fill(&mut engines.squares);
     engines.compare(&work);
-    let mut best: [[Best; 7]; 4] = Default::default();
+    let mut best: [[Best; 8]; 4] = Default::default();
     for _ in 0..ROUNDS {
         round(&mut engines.proved, &work, &mut best[0]);
         round(&mut engines.scan, &work, &mut best[1]);

@@ -175,6 +175,11 @@ impl Brute {
         (0..self.room.cars).filter(|&car| self.car_cell(car).is_some_and(|at| holds(r, at))).collect()
     }
 
+    /// How many cars are in a zone, each looked for; 0 where it does not stand.
+    pub fn count(&self, zone: u32) -> u32 {
+        count(&self.zones[zone as usize].map_or(vec![], |r| self.roster(r)))
+    }
+
     /// Twice the levels on which two cells lie in different squares.
     fn differing(&self, old: Cell, new: Cell) -> u32 {
         let differ = |&level: &u32| number(self.shape, level, old) != number(self.shape, level, new);
@@ -276,6 +281,10 @@ impl Brute {
             Call::Leave { car } => self.leave(car, buffers),
             Call::Search { at } => self.search(at, buffers),
             Call::Roster { zone } => self.list(zone, buffers),
+            Call::Count { zone } => match self.standing_zone(zone) {
+                Ok(_) => done(vec![self.count(zone)], vec![]),
+                Err(refusal) => refused(refusal),
+            },
             Call::Where { car } => match self.placed_car(car) {
                 Ok(at) => done(at.to_vec(), vec![]),
                 Err(refusal) => refused(refusal),
@@ -298,7 +307,7 @@ impl Brute {
 }
 
 /// What a call answers that asks no town, but a shape and lengths.
-pub fn answer_shape(call: &Call, lengths: [usize; 7], buffers: &[usize]) -> Answer {
+pub fn answer_shape(call: &Call, lengths: [usize; 8], buffers: &[usize]) -> Answer {
     let (Call::Open { shape, .. }
     | Call::Lengths { shape, .. }
     | Call::Number { shape, .. }
@@ -375,6 +384,22 @@ mod tests {
         assert_eq!(town.differing((8, 8), (9, 8)), 2);
         assert_eq!(town.differing((1, 1), (5, 1)), 6);
         assert!(allowed(Shape { k: 5, p: 8, q: 1 }) && !allowed(Shape { k: 5, p: 9, q: 1 }));
+    }
+
+    #[test]
+    fn the_count_of_a_zone() {
+        let mut town = Brute::new(TOWN, Capacities { zones: 2, cars: 3, entries: 64 });
+        let half = |cell: u32| (cell as f32 + 0.5).to_bits();
+        town.apply(&Call::Add { zone: 1, r: Rectangle { a: 5, b: 2, w: 8, h: 12 } });
+        for (car, x) in [(0, 4), (1, 5), (2, 12)] {
+            town.apply(&Call::Report { car, at: [half(x), half(13)] });
+        }
+        assert_eq!([0, 1].map(|zone| town.count(zone)), [0, 2]);
+        town.apply(&Call::Report { car: 2, at: [half(13), half(13)] });
+        town.apply(&Call::Leave { car: 0 });
+        assert_eq!([0, 1].map(|zone| town.count(zone)), [0, 1]);
+        let told = [0, 1, 2].map(|zone| town.answer(&Call::Count { zone }, &[]));
+        assert_eq!(told, [refused(7), done(vec![1], vec![]), refused(4)]);
     }
 
     #[test]

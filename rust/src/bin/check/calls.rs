@@ -14,6 +14,7 @@ pub enum Call {
     Leave { car: u32 },
     Search { at: [u32; 2] },
     Roster { zone: u32 },
+    Count { zone: u32 },
     Where { car: u32 },
     Sound,
     Lengths { shape: Shape, room: Capacities },
@@ -37,7 +38,7 @@ const fn kind(name: &'static str, fields: usize, buffers: usize, refusals: &'sta
     Kind { name, fields, buffers, refusals }
 }
 
-pub const KINDS: [Kind; 13] = [
+pub const KINDS: [Kind; 14] = [
     kind("open", 0, 0, &[1, 2, 3]),
     kind("add", 2, 0, &[3, 4, 6, 9, 12]),
     kind("remove", 0, 0, &[3, 4, 7]),
@@ -45,9 +46,10 @@ pub const KINDS: [Kind; 13] = [
     kind("leave", 2, 1, &[3, 5, 8, 11]),
     kind("search", 2, 1, &[3, 10, 11]),
     kind("roster", 1, 1, &[3, 4, 7, 11]),
+    kind("count", 1, 0, &[3, 4, 7]),
     kind("where", 2, 0, &[3, 5, 8]),
     kind("sound", 1, 0, &[3]),
-    kind("lengths", 7, 0, &[1, 2]),
+    kind("lengths", 8, 0, &[1, 2]),
     kind("number", 1, 0, &[1, 13]),
     kind("square", 3, 0, &[1, 13]),
     kind("cut", 1, 1, &[1, 9, 11]),
@@ -63,12 +65,13 @@ impl Call {
             Call::Leave { .. } => 4,
             Call::Search { .. } => 5,
             Call::Roster { .. } => 6,
-            Call::Where { .. } => 7,
-            Call::Sound => 8,
-            Call::Lengths { .. } => 9,
-            Call::Number { .. } => 10,
-            Call::Square { .. } => 11,
-            Call::Cut { .. } => 12,
+            Call::Count { .. } => 7,
+            Call::Where { .. } => 8,
+            Call::Sound => 9,
+            Call::Lengths { .. } => 10,
+            Call::Number { .. } => 11,
+            Call::Square { .. } => 12,
+            Call::Cut { .. } => 13,
         }
     }
 
@@ -78,17 +81,17 @@ impl Call {
 
     /// Whether it is lent a town's tables, and asks what stands in them.
     pub fn asks_town(&self) -> bool {
-        (1..=8).contains(&self.index())
+        (1..=9).contains(&self.index())
     }
 
     /// Which tables it may change, in their order.
-    pub fn changes(&self) -> [bool; 7] {
+    pub fn changes(&self) -> [bool; 8] {
         match self {
-            Call::Open { .. } => [true; 7],
-            Call::Add { .. } | Call::Remove { .. } => [false, true, false, false, true, true, true],
-            Call::Report { .. } => [false, false, true, true, false, false, true],
-            Call::Leave { .. } => [false, false, true, false, false, false, true],
-            _ => [false; 7],
+            Call::Open { .. } => [true; 8],
+            Call::Add { .. } | Call::Remove { .. } => [false, true, false, false, true, true, true, true],
+            Call::Report { .. } => [false, false, true, true, false, false, true, true],
+            Call::Leave { .. } => [false, false, true, false, false, false, true, true],
+            _ => [false; 8],
         }
     }
 }
@@ -390,7 +393,11 @@ pub fn call(random: &mut Random, town: &Brute) -> Call {
         }
         75..=83 => {
             let zone = if random.once_in(3) { any_below(random, town.room.zones) } else { standing(random, town) };
-            Call::Roster { zone }
+            if random.once_in(2) {
+                Call::Roster { zone }
+            } else {
+                Call::Count { zone }
+            }
         }
         84..=88 => Call::Where { car: any_below(random, town.room.cars) },
         89..=91 => Call::Sound,

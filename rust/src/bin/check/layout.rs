@@ -12,9 +12,9 @@ pub fn squares(s: Shape) -> u32 {
 }
 
 /// The lengths of the tables, for a shape and capacities within the bounds.
-pub fn lengths(s: Shape, room: Capacities) -> [usize; 7] {
+pub fn lengths(s: Shape, room: Capacities) -> [usize; 8] {
     let Capacities { zones, cars, entries } = room;
-    [6, 4 * zones, cars, 2 * cars, squares(s) + 1, entries, zones * cars].map(|length| length as usize)
+    [6, 4 * zones, cars, 2 * cars, squares(s) + 1, entries, zones * cars, zones].map(|length| length as usize)
 }
 
 /// The keys of all standing zones, rising, then free marks; and for each place how many keys lie before it. None where
@@ -54,6 +54,11 @@ pub fn rosters(town: &Brute) -> Vec<u8> {
     all
 }
 
+/// The tallies, zone by zone.
+pub fn tallies(town: &Brute) -> Vec<u32> {
+    (0..town.room.zones).map(|zone| town.count(zone)).collect()
+}
+
 /// The records in the tables as lent; none where check 3 does not pass.
 pub fn read(tables: &Tables) -> Option<Brute> {
     let &[k, p, q, zones, cars, entries] = tables.head.now() else { return None };
@@ -85,7 +90,10 @@ pub fn sound(town: &mut Brute, tables: &Tables) -> bool {
     match lists(town) {
         None => false,
         Some((starts, entries)) => {
-            tables.starts.now() == starts && tables.entries.now() == entries && tables.rosters.now() == rosters(town)
+            tables.starts.now() == starts
+                && tables.entries.now() == entries
+                && tables.rosters.now() == rosters(town)
+                && tables.tallies.now() == tallies(town)
         }
     }
 }

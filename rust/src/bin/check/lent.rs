@@ -9,30 +9,42 @@ use unwadegiro::raw;
 const GUARD: usize = 24;
 /// How much longer than its length a slice can be lent.
 pub const SLACK: usize = 8;
-/// Which of the tables the spots are.
+/// The tables, in the order in which they are lent.
+pub const TABLES: [&str; 8] = ["head", "zones", "cars", "spots", "starts", "entries", "rosters", "tallies"];
 pub const SPOTS: usize = 3;
+pub const STARTS: usize = 4;
+pub const ENTRIES: usize = 5;
+pub const TALLIES: usize = 7;
 
 pub trait Word: Copy + PartialEq {
     fn random(random: &mut Random) -> Self;
+    /// The element with these low bits.
+    fn from_bits(bits: u32) -> Self;
+    fn to_bits(self) -> u32;
 }
 
-impl Word for u32 {
-    fn random(random: &mut Random) -> u32 {
-        random.bits()
-    }
+/// Says how a type of elements is made of bits.
+macro_rules! word {
+    ($type:ty) => {
+        impl Word for $type {
+            fn random(random: &mut Random) -> $type {
+                random.word() as $type
+            }
+
+            fn from_bits(bits: u32) -> $type {
+                bits as $type
+            }
+
+            fn to_bits(self) -> u32 {
+                self as u32
+            }
+        }
+    };
 }
 
-impl Word for u8 {
-    fn random(random: &mut Random) -> u8 {
-        random.bits() as u8
-    }
-}
-
-impl Word for usize {
-    fn random(random: &mut Random) -> usize {
-        random.word() as usize
-    }
-}
+word!(u8);
+word!(u32);
+word!(usize);
 
 pub struct Lent<T> {
     memory: Vec<T>,
@@ -47,25 +59,6 @@ impl<T: Word> Lent<T> {
     pub fn noise(own: usize, random: &mut Random) -> Lent<T> {
         let memory: Vec<T> = (0..GUARD + own + SLACK + GUARD).map(|_| T::random(random)).collect();
         Lent { image: memory.clone(), memory, own, lent: own, null: false }
-    }
-
-    /// The length for the next call.
-    pub fn lend(&mut self, length: usize, null: bool) {
-        self.lent = length.min(self.memory.len() - 2 * GUARD);
-        self.null = null && length == 0;
-    }
-
-    /// The length lent last is its own from now on.
-    fn keep(&mut self) {
-        self.own = self.lent;
-    }
-
-    pub fn own(&self) -> usize {
-        self.own
-    }
-
-    pub fn len(&self) -> usize {
-        self.lent
     }
 
     pub fn mutable(&mut self) -> *mut T {
@@ -91,25 +84,70 @@ impl<T: Word> Lent<T> {
     pub fn image(&mut self) -> &mut [T] {
         &mut self.image[GUARD..GUARD + self.own]
     }
+}
+
+/// What is lent, whatever its elements are.
+pub trait Slice {
+    /// The length for the next call.
+    fn lend(&mut self, length: usize, null: bool);
+
+    /// The length lent last is its own from now on.
+    fn keep(&mut self);
+
+    fn own(&self) -> usize;
+
+    fn len(&self) -> usize;
+
+    /// The bits of an element.
+    fn get(&self, at: usize) -> u32;
 
     /// Writes both what stands there and what should.
-    pub fn put(&mut self, at: usize, word: T) {
-        self.memory[GUARD + at] = word;
-        self.image[GUARD + at] = word;
-    }
+    fn put(&mut self, at: usize, bits: u32);
 
     /// Whether every byte, with those around, is as it should be.
-    pub fn right(&self) -> bool {
+    fn right(&self) -> bool;
+
+    /// Takes what stands in a part of it as right.
+    fn accept_part(&mut self, part: Range<usize>);
+
+    /// Takes what stands there as right. Answers whether the bytes around it are.
+    fn accept(&mut self) -> bool {
+        self.accept_part(0..self.own());
+        self.right()
+    }
+}
+
+impl<T: Word> Slice for Lent<T> {
+    fn lend(&mut self, length: usize, null: bool) {
+        self.lent = length.min(self.memory.len() - 2 * GUARD);
+        self.null = null && length == 0;
+    }
+
+    fn keep(&mut self) {
+        self.own = self.lent;
+    }
+
+    fn own(&self) -> usize {
+        self.own
+    }
+
+    fn len(&self) -> usize {
+        self.lent
+    }
+
+    fn get(&self, at: usize) -> u32 {
+        self.memory[GUARD + at].to_bits()
+    }
+
+    fn put(&mut self, at: usize, bits: u32) {
+        self.memory[GUARD + at] = T::from_bits(bits);
+        self.image[GUARD + at] = T::from_bits(bits);
+    }
+
+    fn right(&self) -> bool {
         self.memory == self.image
     }
 
-    /// Takes what stands there as right. Answers whether the bytes around it are.
-    pub fn accept(&mut self) -> bool {
-        self.accept_part(0..self.own);
-        self.right()
-    }
-
-    /// Takes what stands in a part of it as right.
     fn accept_part(&mut self, part: Range<usize>) {
         let part = GUARD + part.start..GUARD + part.end;
         self.image[part.clone()].copy_from_slice(&self.memory[part]);
@@ -125,10 +163,11 @@ pub struct Tables {
     pub starts: Lent<u32>,
     pub entries: Lent<u32>,
     pub rosters: Lent<u8>,
+    pub tallies: Lent<u32>,
 }
 
 impl Tables {
-    pub fn noise(lengths: [usize; 7], random: &mut Random) -> Tables {
+    pub fn noise(lengths: [usize; 8], random: &mut Random) -> Tables {
         Tables {
             head: Lent::noise(lengths[0], random),
             zones: Lent::noise(lengths[1], random),
@@ -137,72 +176,60 @@ impl Tables {
             starts: Lent::noise(lengths[4], random),
             entries: Lent::noise(lengths[5], random),
             rosters: Lent::noise(lengths[6], random),
+            tallies: Lent::noise(lengths[7], random),
         }
     }
 
-    /// The tables of u32, that is, all but the rosters.
-    pub fn words(&mut self) -> [&mut Lent<u32>; 6] {
-        let Tables { head, zones, cars, spots, starts, entries, .. } = self;
-        [head, zones, cars, spots, starts, entries]
+    pub fn all(&self) -> [&dyn Slice; 8] {
+        let Tables { head, zones, cars, spots, starts, entries, rosters, tallies } = self;
+        [head, zones, cars, spots, starts, entries, rosters, tallies]
     }
 
-    pub fn own(&self) -> [usize; 7] {
-        let Tables { head, zones, cars, spots, starts, entries, rosters } = self;
-        [head.own, zones.own, cars.own, spots.own, starts.own, entries.own, rosters.own]
+    pub fn each(&mut self) -> [&mut dyn Slice; 8] {
+        let Tables { head, zones, cars, spots, starts, entries, rosters, tallies } = self;
+        [head, zones, cars, spots, starts, entries, rosters, tallies]
     }
 
-    pub fn lent(&self) -> [usize; 7] {
-        let Tables { head, zones, cars, spots, starts, entries, rosters } = self;
-        [head.lent, zones.lent, cars.lent, spots.lent, starts.lent, entries.lent, rosters.lent]
+    pub fn own(&self) -> [usize; 8] {
+        self.all().map(|table| table.own())
+    }
+
+    pub fn lent(&self) -> [usize; 8] {
+        self.all().map(|table| table.len())
     }
 
     /// Sets one table's length for the next call, the others being their own.
     pub fn lend(&mut self, wrong: Option<(usize, usize, bool)>) {
-        let own = self.own();
-        for (at, table) in self.words().into_iter().enumerate() {
-            table.lend(own[at], false);
+        for table in self.each() {
+            table.lend(table.own(), false);
         }
-        self.rosters.lend(own[6], false);
-        match wrong {
-            Some((6, length, null)) => self.rosters.lend(length, null),
-            Some((at, length, null)) => self.words()[at].lend(length, null),
-            None => {}
+        if let Some((at, length, null)) = wrong {
+            self.each()[at].lend(length, null);
         }
     }
 
     /// The lengths lent last are the tables' own from now on.
     pub fn keep(&mut self) {
-        self.words().into_iter().for_each(Lent::keep);
-        self.rosters.keep();
+        self.each().into_iter().for_each(|table| table.keep());
     }
 
     /// The names of the tables that are not as they should be.
     pub fn wrong(&self) -> Vec<&'static str> {
-        let Tables { head, zones, cars, spots, starts, entries, rosters } = self;
-        let right = [
-            (head.right(), "head"),
-            (zones.right(), "zones"),
-            (cars.right(), "cars"),
-            (spots.right(), "spots"),
-            (starts.right(), "starts"),
-            (entries.right(), "entries"),
-            (rosters.right(), "rosters"),
-        ];
-        right.into_iter().filter(|table| !table.0).map(|table| table.1).collect()
+        let named = TABLES.into_iter().zip(self.all());
+        named.filter(|(_, table)| !table.right()).map(|(name, _)| name).collect()
     }
 
     /// Takes as right what stands in the tables.
     pub fn accept_all(&mut self) {
-        self.words().into_iter().for_each(|table| {
+        for table in self.each() {
             table.accept();
-        });
-        self.rosters.accept();
+        }
     }
 
     /// Takes as right what stands in the tables that a call may change, but of the spots only its own car's.
     pub fn accept(&mut self, call: &Call) {
         let changed = call.changes();
-        for (at, table) in self.words().into_iter().enumerate() {
+        for (at, table) in self.each().into_iter().enumerate() {
             match *call {
                 Call::Report { car, .. } if at == SPOTS => {
                     let first = 2 * car as usize;
@@ -214,19 +241,19 @@ impl Tables {
                 _ => {}
             }
         }
-        if changed[6] {
-            self.rosters.accept();
-        }
     }
 }
 
 /// Calls a C function with the tables, each lent as said, and then the other arguments.
 macro_rules! lend {
-    ($call:ident, $t:ident, [$h:ident $z:ident $c:ident $p:ident $s:ident $e:ident $r:ident] $(, $rest:expr)*) => {
+    (
+        $call:ident, $t:ident, [$h:ident $z:ident $c:ident $p:ident $s:ident $e:ident $r:ident $n:ident] $(, $rest:expr)*
+    ) => {
         raw::$call(
             $t.head.$h(), $t.head.lent, $t.zones.$z(), $t.zones.lent, $t.cars.$c(), $t.cars.lent,
             $t.spots.$p().cast(), $t.spots.lent, $t.starts.$s(), $t.starts.lent,
-            $t.entries.$e(), $t.entries.lent, $t.rosters.$r(), $t.rosters.lent $(, $rest)*
+            $t.entries.$e(), $t.entries.lent, $t.rosters.$r(), $t.rosters.lent,
+            $t.tallies.$n(), $t.tallies.lent $(, $rest)*
         )
     };
 }
@@ -234,7 +261,7 @@ macro_rules! lend {
 /// The same for a call that changes no table.
 macro_rules! read {
     ($call:ident, $t:ident $(, $rest:expr)*) => {
-        lend!($call, $t, [shared shared shared shared shared shared shared] $(, $rest)*)
+        lend!($call, $t, [shared shared shared shared shared shared shared shared] $(, $rest)*)
     };
 }
 
@@ -254,11 +281,11 @@ impl Tables {
         unsafe {
             match piece {
                 Some(piece) => lend!(
-                    unwadegiro_log, self, [mutable mutable mutable mutable mutable mutable mutable],
+                    unwadegiro_log, self, [mutable mutable mutable mutable mutable mutable mutable mutable],
                     piece.as_ptr(), piece.len(), bytes, bytes_len, text, text_len, told, told_len
                 ),
                 None => lend!(
-                    unwadegiro_log_end, self, [mutable mutable mutable mutable mutable mutable mutable],
+                    unwadegiro_log_end, self, [mutable mutable mutable mutable mutable mutable mutable mutable],
                     bytes, bytes_len, text, text_len, told, told_len
                 ),
             }
@@ -279,28 +306,29 @@ pub fn drive(call: &Call, t: &mut Tables, buffers: &mut [Lent<u32>], values: &mu
     unsafe {
         match *call {
             Call::Open { shape: s, room } => lend!(
-                unwadegiro_open, t, [mutable mutable mutable mutable mutable mutable mutable],
+                unwadegiro_open, t, [mutable mutable mutable mutable mutable mutable mutable mutable],
                 s.k, s.p, s.q, room.zones, room.cars, room.entries
             ),
             Call::Add { zone, r } => lend!(
-                unwadegiro_add, t, [shared mutable shared shared mutable mutable mutable],
+                unwadegiro_add, t, [shared mutable shared shared mutable mutable mutable mutable],
                 zone, r.a, r.b, r.w, r.h, told, told_len
             ),
             Call::Remove { zone } => {
-                lend!(unwadegiro_remove, t, [shared mutable shared shared mutable mutable mutable], zone)
+                lend!(unwadegiro_remove, t, [shared mutable shared shared mutable mutable mutable mutable], zone)
             }
             Call::Report { car, at } => lend!(
-                unwadegiro_report, t, [shared shared mutable mutable shared shared mutable],
+                unwadegiro_report, t, [shared shared mutable mutable shared shared mutable mutable],
                 car, float(at[0]), float(at[1]), out, out_len, left, left_len, told, told_len
             ),
             Call::Leave { car } => lend!(
-                unwadegiro_leave, t, [shared shared mutable shared shared shared mutable],
+                unwadegiro_leave, t, [shared shared mutable shared shared shared mutable mutable],
                 car, out, out_len, told, told_len
             ),
             Call::Search { at } => {
                 read!(unwadegiro_search, t, float(at[0]), float(at[1]), out, out_len, told, told_len)
             }
             Call::Roster { zone } => read!(unwadegiro_roster, t, zone, out, out_len, told, told_len),
+            Call::Count { zone } => read!(unwadegiro_count, t, zone, told, told_len),
             Call::Where { car } => read!(unwadegiro_where, t, car, told.cast(), told_len),
             Call::Sound => read!(unwadegiro_sound, t, told, told_len),
             _ => drive_shape(call, (out, out_len), (told, told_len)),

@@ -1,12 +1,15 @@
 //! The log: cut anywhere and answered into buffers of any size, and on tables with noise in them.
 
-use crate::lent::{Lent, Tables};
+use crate::calls::Call;
+use crate::layout;
+use crate::lent::{drive, Lent, Slice, Tables, STARTS};
 use crate::random::Random;
 use std::process;
+use unwadegiro::Shape;
 
 const LOG: &[u8] = include_bytes!("../../../../tests/long.log");
 const ANSWERS: &[u8] = include_bytes!("../../../../tests/long.answers");
-const LENGTHS: [usize; 7] = [6, 64, 64, 128, 5462, 2048, 1024];
+const LENGTHS: [usize; 8] = [6, 64, 64, 128, 5462, 2048, 1024, 16];
 const HELD: usize = 82;
 const LEAST: usize = 768;
 
@@ -22,6 +25,7 @@ struct Logs<'a> {
     held: Lent<u8>,
     calls: u64,
     refused: [u64; 2],
+    looked: u64,
 }
 
 /// What a call answered: the number returned, the values, and the buffer.
@@ -35,13 +39,12 @@ impl Logs<'_> {
     /// Tables, held bytes and a log of which nothing was read.
     fn begin(random: &mut Random) -> Logs<'_> {
         let mut tables = Tables::noise(LENGTHS, random);
-        for table in tables.words() {
+        for table in tables.each() {
             (0..table.own()).for_each(|at| table.put(at, 0));
         }
-        (0..LENGTHS[6]).for_each(|at| tables.rosters.put(at, 0));
         let mut held = Lent::noise(HELD, random);
         (0..HELD).for_each(|at| held.put(at, 0));
-        Logs { random, tables, held, calls: 0, refused: [0; 2] }
+        Logs { random, tables, held, calls: 0, refused: [0; 2], looked: 0 }
     }
 
     /// Makes a call: with a piece of the log, or at its end without one.
@@ -86,15 +89,15 @@ impl Logs<'_> {
     /// A call that is refused: with a length that is wrong, or too many bytes said to be held, or a short buffer.
     fn refuse(&mut self) {
         let mut room = self.room();
-        let (which, piece) = (self.random.below(9), b"D\t1\n");
-        let count = self.held.now()[HELD - 1];
+        let (which, piece) = (self.random.below(10), b"D\t1\n");
+        let count = self.held.get(HELD - 1);
         match which {
-            0..=6 => {
+            0..=7 => {
                 let own = LENGTHS[which as usize];
                 let length = self.random.pick(&[0, own - 1, own + 1, own + 8]);
                 self.tables.lend(Some((which as usize, length, false)));
             }
-            7 => self.held.put(HELD - 1, self.random.between(82, 255) as u8),
+            8 => self.held.put(HELD - 1, self.random.between(82, 255)),
             _ => room = self.random.below(LEAST as u32) as usize,
         }
         if self.random.once_in(9) {
@@ -103,7 +106,7 @@ impl Logs<'_> {
         let lent = self.held.len();
         let end = self.random.once_in(4);
         let turn = self.call(if end { None } else { Some(piece) }, room);
-        let should = if which == 8 && lent == HELD { 11 } else { 3 };
+        let should = if which == 9 && lent == HELD { 11 } else { 3 };
         if turn.returned != should || turn.values != [0, 0] {
             fail(&format!(
                 "it returned {} with {:?}, and should have refused with {should}",
@@ -117,6 +120,34 @@ impl Logs<'_> {
         self.tables.lend(None);
         self.held.lend(HELD, false);
         self.held.put(HELD - 1, count);
+    }
+
+    /// Looks at the open town, if there is one: its tables are sound, and each zone's count is the cars that are found
+    /// inside.
+    fn look(&mut self) {
+        let &[k, p, q, ..] = self.tables.head.now() else { unreachable!("head has six numbers") };
+        if p == 0 {
+            return;
+        }
+        self.tables.lend(Some((STARTS, layout::squares(Shape { k, p, q }) as usize + 1, false)));
+        let mut town = layout::read(&self.tables).unwrap_or_else(|| fail("the open town does not pass check 3"));
+        if !layout::sound(&mut town, &self.tables) {
+            fail("the open town is not sound");
+        }
+        for zone in 0..town.room.zones {
+            let call = Call::Count { zone };
+            let mut values = Lent::noise(1, self.random);
+            let returned = drive(&call, &mut self.tables, &mut [], &mut values);
+            let should = town.answer(&call, &[]);
+            if returned != should.refusal || returned == 0 && values.now() != should.values {
+                fail(&format!("{call:?} returned {returned} with {:?}, and should give {should:?}", values.now()));
+            }
+        }
+        if !self.tables.wrong().is_empty() {
+            fail("asking for the counts changed a table");
+        }
+        self.tables.lend(None);
+        self.looked += 1;
     }
 
     /// The whole log, cut anywhere.
@@ -140,10 +171,14 @@ impl Logs<'_> {
             if self.random.once_in(50) {
                 self.refuse();
             }
+            if self.random.once_in(100) {
+                self.look();
+            }
         }
         let room = self.room();
         let mut turn = self.call(None, room);
         self.take(&mut turn, &mut answers);
+        self.look();
         if answers != ANSWERS {
             fail("the answers are not those that stand beside the log");
         }
@@ -155,7 +190,7 @@ impl Logs<'_> {
     /// Calls on tables with noise in them: they end, and stay within what they are lent.
     fn noise(&mut self, times: u32) {
         for _ in 0..times {
-            for (at, table) in self.tables.words().into_iter().enumerate() {
+            for (at, table) in self.tables.each().into_iter().enumerate() {
                 for _ in 0..self.random.below(4) {
                     let place = self.random.below(LENGTHS[at] as u32) as usize;
                     let word = match self.random.below(3) {
@@ -168,8 +203,6 @@ impl Logs<'_> {
                     }
                 }
             }
-            let place = self.random.below(LENGTHS[6] as u32) as usize;
-            self.tables.rosters.put(place, self.random.bits() as u8);
             let from = self.random.below(LOG.len() as u32) as usize;
             let long = (self.random.below(600) as usize).min(LOG.len() - from);
             let room = self.room();
@@ -184,12 +217,14 @@ impl Logs<'_> {
 
 /// Answers the long log cut in many ways, and calls on noise.
 pub fn run(random: &mut Random, times: u32) {
-    let mut made = [0; 3];
+    let mut made = [0; 4];
     for _ in 0..times {
         let mut logs = Logs::begin(random);
         logs.whole();
         logs.noise(200);
-        made = [made[0] + logs.calls, made[1] + logs.refused[0], made[2] + logs.refused[1]];
+        let one = [logs.calls, logs.refused[0], logs.refused[1], logs.looked];
+        made.iter_mut().zip(one).for_each(|(sum, one)| *sum += one);
     }
-    println!("log      done {:8}   3: {}   11: {}", made[0] - made[1] - made[2], made[1], made[2]);
+    let [calls, wrong, short, looked] = made;
+    println!("log      done {:8}   3: {wrong}   11: {short}   looked into {looked} times", calls - wrong - short);
 }

@@ -11,7 +11,7 @@ mod random;
 
 use brute::{Answer, Brute};
 use calls::{Call, Size, KINDS};
-use lent::{Lent, Tables, SLACK, SPOTS};
+use lent::{Lent, Slice, Tables, ENTRIES, SLACK, SPOTS, TABLES, TALLIES};
 use random::Random;
 use std::{env, process};
 use unwadegiro::{Capacities, Shape};
@@ -30,8 +30,10 @@ struct Check {
     state: State,
     made: u64,
     // how often each kind of call got each number
-    seen: [[u64; 14]; 13],
+    seen: [[u64; 14]; KINDS.len()],
     sound_said: [u64; 2],
+    // how often one number changed in each table made the tables unsound
+    unsound: [u64; TABLES.len()],
     // how many NaNs `where` gave back: signalling and quiet with the sign bit clear, then the same with it set
     nans: [u64; 4],
 }
@@ -50,8 +52,17 @@ impl Check {
         let mut random = Random::new(seed);
         let town = Brute::new(Shape { k: 0, p: 1, q: 1 }, Capacities { zones: 1, cars: 1, entries: 1 });
         let tables = Tables::noise(layout::lengths(town.shape, town.room), &mut random);
-        let (seen, sound_said, nans) = ([[0; 14]; 13], [0; 2], [0; 4]);
-        Check { random, tables, town, state: State::Any, made: 0, seen, sound_said, nans }
+        Check {
+            random,
+            tables,
+            town,
+            state: State::Any,
+            made: 0,
+            seen: [[0; 14]; KINDS.len()],
+            sound_said: [0; 2],
+            unsound: [0; TABLES.len()],
+            nans: [0; 4],
+        }
     }
 
     /// Lends one table with a wrong length, now and then.
@@ -61,7 +72,7 @@ impl Check {
             self.tables.lend(None);
             return;
         }
-        let at = random.below(7) as usize;
+        let at = random.below(TABLES.len() as u32) as usize;
         let own = self.tables.own()[at];
         let length = match random.below(6) {
             0 => 0,
@@ -108,7 +119,8 @@ impl Check {
         values
     }
 
-    /// What the call should answer. On tables that may be unsound the records are read from the tables.
+    /// What the call should answer. On tables that may be unsound the records are read from the tables, and the count of
+    /// a zone is the stored one.
     fn expect(&mut self, call: &Call, buffers: &[usize]) -> Answer {
         if !call.asks_town() {
             return brute::answer_shape(call, self.tables.lent(), buffers);
@@ -127,8 +139,14 @@ impl Check {
             return Answer { refusal: 3, ..Answer::default() };
         }
         let mut answer = self.town.answer(call, buffers);
-        if self.state == State::Any && matches!(call, Call::Sound) {
-            answer.values = vec![layout::sound(&mut self.town, &self.tables) as u32];
+        match *call {
+            Call::Sound if self.state == State::Any => {
+                answer.values = vec![layout::sound(&mut self.town, &self.tables) as u32];
+            }
+            Call::Count { zone } if self.state == State::Any && answer.refusal == 0 => {
+                answer.values = vec![self.tables.tallies.get(zone as usize)];
+            }
+            _ => {}
         }
         answer
     }
@@ -142,7 +160,8 @@ impl Check {
         let answer = self.expect(&call, &lengths);
         let returned = lent::drive(&call, &mut self.tables, &mut buffers, &mut values);
         self.made += 1;
-        let gap = self.state == State::Any && call.asks_town() && !matches!(call, Call::Sound | Call::Where { .. });
+        let set = matches!(call, Call::Sound | Call::Where { .. } | Call::Count { .. });
+        let gap = self.state == State::Any && call.asks_town() && !set;
         let either = gap && matches!(call, Call::Add { .. }) && [0, 12].contains(&answer.refusal);
         if returned != answer.refusal && !(either && [0, 12].contains(&returned)) {
             fail(&call, &format!("it returned {returned}, and should have returned {}", answer.refusal), self);
@@ -219,6 +238,7 @@ impl Check {
             self.tables.starts.image().fill(0);
             self.tables.entries.image().fill(layout::FREE);
             self.tables.rosters.image().fill(0);
+            self.tables.tallies.image().fill(0);
             return;
         }
         self.town.apply(call);
@@ -252,16 +272,36 @@ impl Check {
         let tables = &self.tables;
         let same = tables.starts.now() == starts
             && tables.entries.now() == entries
-            && tables.rosters.now() == layout::rosters(&self.town);
+            && tables.rosters.now() == layout::rosters(&self.town)
+            && tables.tallies.now() == layout::tallies(&self.town);
         if !same {
             fail(&Call::Sound, "the derived tables are not what the records give afresh", self);
         }
     }
 
-    /// Changes one number of the tables and asks whether they are sound, then puts it back.
+    /// Asks a sound town for the count of every zone number, and compares it with the cars that are found inside.
+    fn compare_counts(&mut self) {
+        self.tables.lend(None);
+        for zone in 0..self.town.room.zones {
+            let call = Call::Count { zone };
+            let mut values = Lent::noise(1, &mut self.random);
+            let returned = lent::drive(&call, &mut self.tables, &mut [], &mut values);
+            let should = self.town.answer(&call, &[]);
+            if returned != should.refusal || returned == 0 && values.now() != should.values {
+                let got = format!("it returned {returned} with {:?}", values.now());
+                fail(&call, &format!("{got}, and should give {should:?}"), self);
+            }
+        }
+        if !self.tables.wrong().is_empty() {
+            fail(&Call::Count { zone: 0 }, "asking for the counts changed a table", self);
+        }
+    }
+
+    /// Changes one number of the tables and asks whether they are sound, then puts it back. A zone's changed count is
+    /// told as it stands.
     fn probe(&mut self) {
         let random = &mut self.random;
-        let table = random.pick(&[1usize, 2, 3, 4, 4, 5, 5, 6, 6]);
+        let table = random.pick(&[1usize, 2, 3, 4, 4, 5, 5, 6, 6, TALLIES, TALLIES]);
         let at = random.below(self.tables.own()[table] as u32) as usize;
         let change = random.below(6);
         let other = random.bits();
@@ -275,17 +315,15 @@ impl Check {
         };
         self.tables.lend(None);
         self.state = State::Any;
-        if table == 6 {
-            let old = self.tables.rosters.now()[at];
-            self.tables.rosters.put(at, changed(old as u32) as u8);
-            self.ask_sound();
-            self.tables.rosters.put(at, old);
-        } else {
-            let old = self.tables.words()[table].now()[at];
-            self.tables.words()[table].put(at, changed(old));
-            self.ask_sound();
-            self.tables.words()[table].put(at, old);
+        let old = self.tables.all()[table].get(at);
+        self.tables.each()[table].put(at, changed(old));
+        if !self.ask_sound() {
+            self.unsound[table] += 1;
         }
+        if table == TALLIES {
+            self.make(Call::Count { zone: at as u32 });
+        }
+        self.tables.each()[table].put(at, old);
         self.tables.lend(None);
         self.state = State::Sound;
         self.town = layout::read(&self.tables).expect("sound tables pass check 3");
@@ -307,13 +345,15 @@ impl Check {
         }
     }
 
-    /// Asks whether the tables are sound, and counts how often they are and are not.
-    fn ask_sound(&mut self) {
+    /// Asks whether the tables are sound, and counts how often they are and are not. Answers whether they are.
+    fn ask_sound(&mut self) -> bool {
         self.tables.lend(None);
-        if let Some(mut town) = layout::read(&self.tables) {
-            self.sound_said[layout::sound(&mut town, &self.tables) as usize] += 1;
+        let sound = layout::read(&self.tables).map(|mut town| layout::sound(&mut town, &self.tables));
+        if let Some(sound) = sound {
+            self.sound_said[sound as usize] += 1;
         }
         self.make(Call::Sound);
+        sound == Some(true)
     }
 
     /// Writes noise into the tables: a few numbers, or whole tables; head mostly stays.
@@ -322,7 +362,7 @@ impl Check {
         let random = &mut self.random;
         let whole = random.once_in(3);
         let own = self.tables.own();
-        for table in 0..7 {
+        for table in 0..TABLES.len() {
             if table == 0 && !random.once_in(20) || table != 0 && random.once_in(2) {
                 continue;
             }
@@ -334,12 +374,9 @@ impl Check {
                     0 => random.bits(),
                     1 => random.below(4),
                     2 => random.below(300),
-                    _ => random.below(own[5] as u32 + 2),
+                    _ => random.below(own[ENTRIES] as u32 + 2),
                 };
-                match table {
-                    6 => self.tables.rosters.put(at, word as u8),
-                    _ => self.tables.words()[table].put(at, word),
-                }
+                self.tables.each()[table].put(at, word);
             }
         }
     }
@@ -393,9 +430,11 @@ impl Check {
             }
             if self.random.once_in(300) {
                 self.compare_afresh();
+                self.compare_counts();
             }
         }
         self.compare_afresh();
+        self.compare_counts();
     }
 
     fn live_spoilt(&mut self, end: u64) {
@@ -436,13 +475,19 @@ impl Check {
             all &= seen[0] > 0;
         }
         println!("of changed tables {} were sound and {} were not", self.sound_said[1], self.sound_said[0]);
+        print!("unsound by one number changed in");
+        for (name, times) in TABLES.iter().zip(self.unsound).skip(1) {
+            print!("   {name}: {times}");
+            all &= times > 0;
+        }
+        println!();
         let [plus, plus_quiet, minus, minus_quiet] = self.nans;
         println!("NaNs given back by where: +signalling {plus}, +quiet {plus_quiet}, -signalling {minus}, -quiet {minus_quiet}");
         all && self.sound_said.iter().chain(&self.nans).all(|&times| times > 0)
     }
 }
 
-/// The rows and columns of zones that an added or removed zone changes: its roster, and all lists.
+/// What an added or removed zone changes: its roster and its count, and all lists.
 fn derive_zone(town: &mut Brute, tables: &mut Tables, zone: u32) {
     let (starts, entries) = layout::lists(town).expect("an accepted add has room");
     tables.starts.image().copy_from_slice(&starts);
@@ -450,12 +495,18 @@ fn derive_zone(town: &mut Brute, tables: &mut Tables, zone: u32) {
     for car in 0..town.room.cars {
         tables.rosters.image()[(zone * town.room.cars + car) as usize] = town.in_zone(zone, car) as u8;
     }
+    tables.tallies.image()[zone as usize] = town.count(zone);
 }
 
-/// What a report or a leave changes: its car on all rosters.
+/// What a report or a leave changes: its car on all rosters, and the counts of the zones whose roster changes.
 fn derive_car(town: &Brute, tables: &mut Tables, car: u32) {
     for zone in 0..town.room.zones {
-        tables.rosters.image()[(zone * town.room.cars + car) as usize] = town.in_zone(zone, car) as u8;
+        let byte = &mut tables.rosters.image()[(zone * town.room.cars + car) as usize];
+        let inside = town.in_zone(zone, car) as u8;
+        if *byte != inside {
+            *byte = inside;
+            tables.tallies.image()[zone as usize] = town.count(zone);
+        }
     }
 }
 
@@ -478,7 +529,7 @@ fn main() {
         check.made
     );
     if !all && calls >= 1_000_000 {
-        println!("but some number, or some kind of NaN, that can be given was never given");
+        println!("but something that is counted above never occurred");
         process::exit(1);
     }
 }

@@ -1,4 +1,4 @@
--- The lengths of the tables: 1 without a shape, 2 without capacities, else the seven.
+-- The lengths of the tables: 1 without a shape, 2 without capacities, else the eight.
 use mathlib.Core.Bool.{true}
 use mathlib.Core.Path.{_≡_}
 use native.Mathlib.Nat.{mul-le-mul}
@@ -46,8 +46,8 @@ enum-known-s c = search needs
 enum-told : tie.Need-enum-told
 enum-told c = search needs
 
-tell-seven-requires : tie.Need-tell-seven-requires
-tell-seven-requires c κs = search needs
+tell-eight-requires : tie.Need-tell-eight-requires
+tell-eight-requires c κs = search needs
 
 same-length : tie.Need-same-length
 same-length c = search needs
@@ -58,13 +58,13 @@ returns c =
     let none = told .before .before in
     let new = none .before .before in
     let a = start new .args in
-    gives (lengths-stops _ _ _ _ 0 (not-shaped (a .k) (a .P) (a .Q) (new .new .ensures) (none .enum-told .given .1))) (told .tell-seven .ensures)
+    gives (lengths-stops _ _ _ _ 0 (not-shaped (a .k) (a .P) (a .Q) (new .new .ensures) (none .enum-told .given .1))) (told .tell-eight .ensures)
 
 roomy-requires : tie.Need-roomy-requires
 roomy-requires c κs = search needs
 
-tell-seven-requires-2 : tie.Need-tell-seven-requires-2
-tell-seven-requires-2 c κs = search needs
+tell-eight-requires-2 : tie.Need-tell-eight-requires-2
+tell-eight-requires-2 c κs = search needs
 
 same-length-2 : tie.Need-same-length-2
 same-length-2 c = search needs
@@ -74,7 +74,7 @@ returns-2 c =
     let told = c .before .before in
     let then = told .before .before in
     let m = made (then .before .before) in
-    rw (m .0) (gives (lengths-stops _ _ _ _ 1 (m .1, fails (then .before .roomy .ensures) (then .if1 .taken))) (told .tell-seven2 .ensures))
+    rw (m .0) (gives (lengths-stops _ _ _ _ 1 (m .1, fails (then .before .roomy .ensures) (then .if1 .taken))) (told .tell-eight2 .ensures))
 
 squares-requires : tie.Need-squares-requires
 squares-requires c κs = allowed→ _ (made (asked c) .1)
@@ -85,21 +85,24 @@ cast-starts c = search needs
 add-starts : tie.Need-add-starts
 add-starts c = search needs
 
-mul-tell-seven : tie.Need-mul-tell-seven
-mul-tell-seven c = search needs
+mul-tell-eight : tie.Need-mul-tell-eight
+mul-tell-eight c = search needs
 
-mul-tell-seven-2 : tie.Need-mul-tell-seven-2
-mul-tell-seven-2 c = search needs
+mul-tell-eight-2 : tie.Need-mul-tell-eight-2
+mul-tell-eight-2 c = search needs
 
-mul-tell-seven-3 : tie.Need-mul-tell-seven-3
-mul-tell-seven-3 c =
+mul-tell-eight-3 : tie.Need-mul-tell-eight-3
+mul-tell-eight-3 c =
     let a = start (shaped (asked (c .before))) .args in
     let h = roomy→ (a .zones) (a .cars) (a .entries) (room (c .before)) in
     let few = mul-le-mul (h .zones-few) (h .cars-few) in
     search needs
 
-tell-seven-requires-3 : tie.Need-tell-seven-requires-3
-tell-seven-requires-3 c κs = search needs
+mul-tell-eight-4 : tie.Need-mul-tell-eight-4
+mul-tell-eight-4 c = search needs
+
+tell-eight-requires-3 : tie.Need-tell-eight-requires-3
+tell-eight-requires-3 c κs = search needs
 
 same-length-3 : tie.Need-same-length-3
 same-length-3 c = search needs
@@ -109,7 +112,7 @@ returns-3 c =
     let told = c .before .before in
     let counted = told .before .before in
     let m = made (asked (counted .before)) in
-    rw (m .0) (gives (lengths-stops _ _ _ _ 2 (m .1, (room (counted .before), tt))) (rw (counted .squares .ensures .is) at (told .tell-seven3 .ensures)))
+    rw (m .0) (gives (lengths-stops _ _ _ _ 2 (m .1, (room (counted .before), tt))) (rw (counted .squares .ensures .is) at (told .tell-eight3 .ensures)))
 
 pub unwadegiro-lengths-spec : {M : Type 1} → statement M
 unwadegiro-lengths-spec =
@@ -118,19 +121,20 @@ unwadegiro-lengths-spec =
     new-requires
     enum-known-s
     enum-told
-    tell-seven-requires
+    tell-eight-requires
     same-length
     returns
     roomy-requires
-    tell-seven-requires-2
+    tell-eight-requires-2
     same-length-2
     returns-2
     squares-requires
     cast-starts
     add-starts
-    mul-tell-seven
-    mul-tell-seven-2
-    mul-tell-seven-3
-    tell-seven-requires-3
+    mul-tell-eight
+    mul-tell-eight-2
+    mul-tell-eight-3
+    mul-tell-eight-4
+    tell-eight-requires-3
     same-length-3
     returns-3)

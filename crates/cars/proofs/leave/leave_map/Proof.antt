@@ -1,4 +1,4 @@
--- `leave_map` marks the car off the map, looks into the squares of its cell, and clears its byte in their zones' rows.
+-- `leave_map` marks the car off the map, looks into the squares of its cell, clears its byte in their zones' rows and moves their counts.
 use mathlib.Core.Path.{refl, sym, _∙_}
 use native.Mathlib.Omega.{arith}
 use Rattle.order.specs.BufferLaws.{front-within, count-front}
@@ -13,7 +13,7 @@ use Rattle.cars.proofs.leave.leave_map.Tie as tie
 -- ---- stations
 
 abbrev start : tie.Else1 → tie.Start
-start c = c .before .before .before .before .before .before .before .before .before .before .before .before .before
+start c = c .before .before .before .before .before .before .before .before .before .before .before .before .before .before .before
 
 abbrev passed : tie.After-spot-in → tie.Else1
 passed c = c .before .before .before .before .before .before
@@ -36,8 +36,11 @@ cell c = c .before .before .before
 abbrev looked : tie.After-stamp-rows → tie.After-look-up
 looked c = c .before .before .before .before .before .before
 
+abbrev rowed : tie.After-move-counts → tie.After-stamp-rows
+rowed c = c .before .before .before .before .before
+
 abbrev whole : tie.Start → Tables
-whole c = tables (c .args .head .now) (c .args .zones .now) (c .args .cars .now) (c .args .spots .now) (c .args .starts .now) (c .args .entries .now) (c .args .rosters .now)
+whole c = tables (c .args .head .now) (c .args .zones .now) (c .args .cars .now) (c .args .spots .now) (c .args .starts .now) (c .args .entries .now) (c .args .rosters .now) (c .args .tallies .now)
 
 -- ---- what is known past the refusal
 
@@ -57,6 +60,9 @@ same-length-2 c = search needs
 
 same-length-3 : tie.Need-same-length-3
 same-length-3 c = search needs
+
+same-length-4 : tie.Need-same-length-4
+same-length-4 c = search needs
 
 returns : tie.Need-returns
 unfolding meaning
@@ -80,14 +86,17 @@ enum-known-x c = search needs
 enum-told : tie.Need-enum-told
 enum-told c = search needs
 
-same-length-4 : tie.Need-same-length-4
-same-length-4 c = search needs
-
 same-length-5 : tie.Need-same-length-5
 same-length-5 c = search needs
 
 same-length-6 : tie.Need-same-length-6
 same-length-6 c = search needs
+
+same-length-7 : tie.Need-same-length-7
+same-length-7 c = search needs
+
+same-length-8 : tie.Need-same-length-8
+same-length-8 c = search needs
 
 returns-2 : tie.Need-returns-2
 returns-2 c =
@@ -114,23 +123,36 @@ car-room-requires c κs = let saw = c .before .before .before .before in omega (
 stamp-rows-requires : tie.Need-stamp-rows-requires
 stamp-rows-requires c κs = let saw = c .before .before .before .before .before in omega (arith, ok (passed (stored (located (cell saw)))) .size .room .cars-few)
 
-same-length-7 : tie.Need-same-length-7
-same-length-7 c = search needs
+slice-reshare-prefix-move-counts : tie.Need-slice-reshare-prefix-move-counts
+slice-reshare-prefix-move-counts c = let saw = looked (c .before .before .before) in front-within (saw .look-up .ensures .found)
 
-same-length-8 : tie.Need-same-length-8
-same-length-8 c = search needs
+slice-aggregate-move-counts : tie.Need-slice-aggregate-move-counts
+slice-aggregate-move-counts c = let saw = looked (c .before .before .before .before) in count-front _ _ (front-within (saw .look-up .ensures .found))
+
+move-counts-requires : tie.Need-move-counts-requires
+move-counts-requires c κs = search needs
 
 same-length-9 : tie.Need-same-length-9
 same-length-9 c = search needs
 
+same-length-10 : tie.Need-same-length-10
+same-length-10 c = search needs
+
+same-length-11 : tie.Need-same-length-11
+same-length-11 c = search needs
+
+same-length-12 : tie.Need-same-length-12
+same-length-12 c = search needs
+
 returns-3 : tie.Need-returns-3
 returns-3 c =
-    let stamped = c .before .before in
+    let counted = c .before .before in
+    let stamped = rowed counted in
     let saw = looked stamped in
     let x = cell saw in
     let at = located x in
     let spot = stored at in
-    leave-kept (ok (passed spot)) (shaped spot .shape-in .ensures) (spot .spot-in .ensures) (at .locate .ensures) (x .x .given .1) (saw .look-up .ensures) (stamped .before .car-room .ensures) (written spot .write-car .ensures) (stamped .stamp-rows .ensures)
+    leave-kept (ok (passed spot)) (shaped spot .shape-in .ensures) (spot .spot-in .ensures) (at .locate .ensures) (x .x .given .1) (saw .look-up .ensures) (stamped .before .car-room .ensures) (written spot .write-car .ensures) (stamped .stamp-rows .ensures) (counted .move-counts .ensures)
 
 pub leave-map-spec : {M : Type 1} → statement M
 leave-map-spec =
@@ -140,6 +162,7 @@ leave-map-spec =
     same-length
     same-length-2
     same-length-3
+    same-length-4
     returns
     shape-in-requires
     write-car-requires
@@ -147,16 +170,21 @@ leave-map-spec =
     locate-requires
     enum-known-x
     enum-told
-    same-length-4
     same-length-5
     same-length-6
+    same-length-7
+    same-length-8
     returns-2
     look-up-requires
     slice-reshare-prefix-stamp-rows
     slice-aggregate-stamp-rows
     car-room-requires
     stamp-rows-requires
-    same-length-7
-    same-length-8
+    slice-reshare-prefix-move-counts
+    slice-aggregate-move-counts
+    move-counts-requires
     same-length-9
+    same-length-10
+    same-length-11
+    same-length-12
     returns-3)

@@ -19,7 +19,7 @@ use Rattle.cars.proofs.report.admit.Tie as tie
 -- ---- stations
 
 abbrev start : tie.Else1 → tie.Start
-start c = c .before .before .before .before .before .before .before .before .before .before .before
+start c = c .before .before .before .before .before .before .before .before .before .before .before .before
 
 abbrev one : tie.Else2 → tie.Else1
 one c = c .before .before
@@ -31,7 +31,7 @@ abbrev cell : tie.After-zone-room → tie.After-x
 cell c = c .before .before
 
 abbrev whole : tie.Start → Tables
-whole c = tables (c .args .head .now) (c .args .zones .now) (c .args .cars .now) (c .args .spots .now) (c .args .starts .now) (c .args .entries .now) (c .args .rosters .now)
+whole c = tables (c .args .head .now) (c .args .zones .now) (c .args .cars .now) (c .args .spots .now) (c .args .starts .now) (c .args .entries .now) (c .args .rosters .now) (c .args .tallies .now)
 
 -- ---- the tests that hold
 

@@ -16,7 +16,7 @@ enum-known-admitted-2 c = search needs
 
 move-car-requires : tie.Need-move-car-requires
 move-car-requires c κs =
-    let at = c .before .before .before .before .before .before in
+    let at = c .before .before .before .before .before .before .before in
     reportable _ _ _ _ _ (sym (at .admitted2 .given .1) ∙ at .before .before .admit .ensures)
 
 same-length : tie.Need-same-length
@@ -34,11 +34,11 @@ same-length-4 c = search needs
 same-length-5 : tie.Need-same-length-5
 same-length-5 c = search needs
 
-returns : tie.Need-returns
-returns c = not-admitted _ _ _ _ _ (sym (c .before .admitted .given .1) ∙ c .before .before .before .admit .ensures)
-
 same-length-6 : tie.Need-same-length-6
 same-length-6 c = search needs
+
+returns : tie.Need-returns
+returns c = not-admitted _ _ _ _ _ (sym (c .before .admitted .given .1) ∙ c .before .before .before .admit .ensures)
 
 same-length-7 : tie.Need-same-length-7
 same-length-7 c = search needs
@@ -51,6 +51,12 @@ same-length-9 c = search needs
 
 same-length-10 : tie.Need-same-length-10
 same-length-10 c = search needs
+
+same-length-11 : tie.Need-same-length-11
+same-length-11 c = search needs
+
+same-length-12 : tie.Need-same-length-12
+same-length-12 c = search needs
 
 returns-2 : tie.Need-returns-2
 returns-2 c = search needs
@@ -68,10 +74,12 @@ report-car-spec =
     same-length-3
     same-length-4
     same-length-5
-    returns
     same-length-6
+    returns
     same-length-7
     same-length-8
     same-length-9
     same-length-10
+    same-length-11
+    same-length-12
     returns-2)

@@ -7,23 +7,23 @@ use Rattle.cases.proofs.whole.lines.Statement.{statement}
 use Rattle.cases.proofs.whole.lines.Tie as tie
 
 abbrev Inv-loop : tie.InvT-loop
-Inv-loop head zones₀ cars₀ spots₀ starts₀ entries₀ rosters₀ script many i₀ zones cars spots starts entries rosters i = (length zones ≡ length zones₀) × ((length cars ≡ length cars₀) × ((length spots ≡ length spots₀) × ((length starts ≡ length starts₀) × ((length entries ≡ length entries₀) × (length rosters ≡ length rosters₀)))))
+Inv-loop head zones₀ cars₀ spots₀ starts₀ entries₀ rosters₀ tallies₀ script many i₀ zones cars spots starts entries rosters tallies i = (length zones ≡ length zones₀) × ((length cars ≡ length cars₀) × ((length spots ≡ length spots₀) × ((length starts ≡ length starts₀) × ((length entries ≡ length entries₀) × ((length rosters ≡ length rosters₀) × (length tallies ≡ length tallies₀))))))
 
 abbrev μ-loop : tie.MeasureT-loop
-μ-loop head zones₀ cars₀ spots₀ starts₀ entries₀ rosters₀ script many i₀ zones cars spots starts entries rosters i = many - i
+μ-loop head zones₀ cars₀ spots₀ starts₀ entries₀ rosters₀ tallies₀ script many i₀ zones cars spots starts entries rosters tallies i = many - i
 
 -- ---- stations: from each the one before it
 
 abbrev turn : tie.After-line Inv-loop μ-loop → tie.In-loop Inv-loop μ-loop
-turn c = c .before .before .before .before .before .before .before .before .before .before .before .before .before
+turn c = c .before .before .before .before .before .before .before .before .before .before .before .before .before .before
 
-abbrev played : tie.After-slice-known12 Inv-loop μ-loop → tie.After-line Inv-loop μ-loop
-played c = c .before .before .before .before .before .before .before .before .before .before .before .before
+abbrev played : tie.After-slice-known14 Inv-loop μ-loop → tie.After-line Inv-loop μ-loop
+played c = c .before .before .before .before .before .before .before .before .before .before .before .before .before .before
 
 -- ---- needs
 
 loop-holds : tie.Need-loop-holds Inv-loop μ-loop
-loop-holds c = (refl, (refl, (refl, (refl, (refl, refl)))))
+loop-holds c = (refl, (refl, (refl, (refl, (refl, (refl, refl))))))
 
 mul-at : tie.Need-mul-at Inv-loop μ-loop
 mul-at c = search needs
@@ -93,7 +93,7 @@ loop-again c =
     let line = played c in
     let kept = line .line .kept .1 in
     let was = turn line .before .loop .inv in
-    (kept .0 ∙ was .0, (kept .1 .0 ∙ was .1 .0, (kept .1 .1 .0 ∙ was .1 .1 .0, (kept .1 .1 .1 .0 ∙ was .1 .1 .1 .0, (kept .1 .1 .1 .1 .0 ∙ was .1 .1 .1 .1 .0, kept .1 .1 .1 .1 .1 .0 ∙ was .1 .1 .1 .1 .1)))))
+    (kept .0 ∙ was .0, (kept .1 .0 ∙ was .1 .0, (kept .1 .1 .0 ∙ was .1 .1 .0, (kept .1 .1 .1 .0 ∙ was .1 .1 .1 .0, (kept .1 .1 .1 .1 .0 ∙ was .1 .1 .1 .1 .0, (kept .1 .1 .1 .1 .1 .0 ∙ was .1 .1 .1 .1 .1 .0, kept .1 .1 .1 .1 .1 .1 .0 ∙ was .1 .1 .1 .1 .1 .1))))))
 
 same-length : tie.Need-same-length Inv-loop μ-loop
 same-length c = c .before .loop .inv .0
@@ -111,7 +111,10 @@ same-length-5 : tie.Need-same-length-5 Inv-loop μ-loop
 same-length-5 c = c .before .loop .inv .1 .1 .1 .1 .0
 
 same-length-6 : tie.Need-same-length-6 Inv-loop μ-loop
-same-length-6 c = c .before .loop .inv .1 .1 .1 .1 .1
+same-length-6 c = c .before .loop .inv .1 .1 .1 .1 .1 .0
+
+same-length-7 : tie.Need-same-length-7 Inv-loop μ-loop
+same-length-7 c = c .before .loop .inv .1 .1 .1 .1 .1 .1
 
 returns : tie.Need-returns Inv-loop μ-loop
 returns c = search needs
@@ -151,4 +154,5 @@ lines-spec =
     same-length-4
     same-length-5
     same-length-6
+    same-length-7
     returns)

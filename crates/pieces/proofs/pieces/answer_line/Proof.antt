@@ -7,11 +7,11 @@ use Rattle.pieces.proofs.pieces.answer_line.Tie as tie
 
 -- ---- stations: from each an earlier one
 
-abbrev stepped : tie.After-slice-known16 → tie.After-step
-stepped c = c .before .before .before .before .before .before .before .before .before .before .before .before .before .before .before .before
+abbrev stepped : tie.After-slice-known18 → tie.After-step
+stepped c = c .before .before .before .before .before .before .before .before .before .before .before .before .before .before .before .before .before .before
 
-abbrev asked : tie.After-slice-known16 → tie.Else1
-asked c = stepped c .before .before .before .before .before .before .before .before .before
+abbrev asked : tie.After-slice-known18 → tie.Else1
+asked c = stepped c .before .before .before .before .before .before .before .before .before .before
 
 -- ---- needs
 
@@ -45,6 +45,9 @@ same-length-7 c = search needs
 same-length-8 : tie.Need-same-length-8
 same-length-8 c = search needs
 
+same-length-9 : tie.Need-same-length-9
+same-length-9 c = search needs
+
 returns-2 : tie.Need-returns-2
 returns-2 c = answers-step (not-false _ (asked c .if1 .left)) (stepped c .step .ensures)
 
@@ -62,4 +65,5 @@ answer-line-spec =
     same-length-6
     same-length-7
     same-length-8
+    same-length-9
     returns-2)

@@ -8,19 +8,19 @@ use Rattle.pieces.proofs.pieces.fill_last.Tie as tie
 
 -- ---- stations: from each an earlier one
 
-abbrev begun : tie.After-slice-known10 → tie.Start
-begun c = c .before .before .before .before .before .before .before .before .before .before
+abbrev begun : tie.After-slice-known11 → tie.Start
+begun c = c .before .before .before .before .before .before .before .before .before .before .before
 
-abbrev lending : tie.After-answer-line-arg7 → tie.After-slice-known10
-lending c = c .before .before .before .before .before .before .before
+abbrev lending : tie.After-answer-line-arg8 → tie.After-slice-known11
+lending c = c .before .before .before .before .before .before .before .before
 
 abbrev asked : tie.After-answer-line → tie.Start
 asked c = begun (lending (c .before .before .before))
 
 abbrev answered : tie.After-keep-held → tie.After-answer-line
-answered c = c .before .before .before .before .before .before .before .before .before .before .before .before .before .before .before .before .before .before
+answered c = c .before .before .before .before .before .before .before .before .before .before .before .before .before .before .before .before .before .before .before .before
 
-abbrev kept : tie.After-slice-known19 → tie.After-keep-held
+abbrev kept : tie.After-slice-known21 → tie.After-keep-held
 kept c = c .before .before
 
 -- ---- needs
@@ -70,6 +70,9 @@ same-length-8 c = search needs
 same-length-9 : tie.Need-same-length-9
 same-length-9 c = search needs
 
+same-length-10 : tie.Need-same-length-10
+same-length-10 c = search needs
+
 returns : tie.Need-returns
 returns c = ends (asked (answered (kept c)) .pre) (answered (kept c) .answer-line .ensures) (kept c .keep-held .ensures)
 
@@ -92,4 +95,5 @@ fill-last-spec =
     same-length-7
     same-length-8
     same-length-9
+    same-length-10
     returns)

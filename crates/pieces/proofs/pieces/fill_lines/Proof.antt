@@ -11,15 +11,15 @@ use Rattle.pieces.proofs.pieces.fill_lines.Statement.{statement}
 use Rattle.pieces.proofs.pieces.fill_lines.Tie as tie
 
 abbrev Inv-loop : tie.InvT-loop
-Inv-loop head₀ zones₀ cars₀ spots₀ starts₀ entries₀ rosters₀ piece held₀ out₀ at₀ many₀ wrote₀ head zones cars spots starts entries rosters held out at many wrote = Walking (tables head₀ zones₀ cars₀ spots₀ starts₀ entries₀ rosters₀) (tables head zones cars spots starts entries rosters) piece held₀ held out₀ out at many wrote
+Inv-loop head₀ zones₀ cars₀ spots₀ starts₀ entries₀ rosters₀ tallies₀ piece held₀ out₀ at₀ many₀ wrote₀ head zones cars spots starts entries rosters tallies held out at many wrote = Walking (tables head₀ zones₀ cars₀ spots₀ starts₀ entries₀ rosters₀ tallies₀) (tables head zones cars spots starts entries rosters tallies) piece held₀ held out₀ out at many wrote
 
 abbrev μ-loop : tie.MeasureT-loop
-μ-loop head₀ zones₀ cars₀ spots₀ starts₀ entries₀ rosters₀ piece held₀ out₀ at₀ many₀ wrote₀ head zones cars spots starts entries rosters held out at many wrote = length piece - at
+μ-loop head₀ zones₀ cars₀ spots₀ starts₀ entries₀ rosters₀ tallies₀ piece held₀ out₀ at₀ many₀ wrote₀ head zones cars spots starts entries rosters tallies held out at many wrote = length piece - at
 
 -- ---- stations: from each an earlier one
 
-abbrev begun : tie.After-slice-known10 Inv-loop μ-loop → tie.Start Inv-loop μ-loop
-begun c = c .before .before .before .before .before .before .before .before .before .before .before
+abbrev begun : tie.After-slice-known11 Inv-loop μ-loop → tie.Start Inv-loop μ-loop
+begun c = c .before .before .before .before .before .before .before .before .before .before .before .before
 
 abbrev start : tie.At-loop Inv-loop μ-loop → tie.Start Inv-loop μ-loop
 start c = begun (c .before)
@@ -27,19 +27,19 @@ start c = begun (c .before)
 abbrev turn : tie.After-take-line Inv-loop μ-loop → tie.At-loop Inv-loop μ-loop
 turn c = c .before .before .before .before
 
-abbrev lending : tie.After-answer-line-arg7 Inv-loop μ-loop → tie.After-take-line Inv-loop μ-loop
-lending c = c .before .before .before .before .before .before .before .before .before
+abbrev lending : tie.After-answer-line-arg8 Inv-loop μ-loop → tie.After-take-line Inv-loop μ-loop
+lending c = c .before .before .before .before .before .before .before .before .before .before
 
 abbrev asked : tie.After-answer-line Inv-loop μ-loop → tie.After-take-line Inv-loop μ-loop
 asked c = lending (c .before .before .before)
 
-abbrev answered : tie.After-slice-known19 Inv-loop μ-loop → tie.After-answer-line Inv-loop μ-loop
-answered c = c .before .before .before .before .before .before .before .before .before .before .before .before .before .before .before .before
+abbrev answered : tie.After-slice-known21 Inv-loop μ-loop → tie.After-answer-line Inv-loop μ-loop
+answered c = c .before .before .before .before .before .before .before .before .before .before .before .before .before .before .before .before .before .before
 
 abbrev left : tie.After-keep-held Inv-loop μ-loop → tie.At-loop Inv-loop μ-loop
 left c = c .before .before .before .before
 
-abbrev kept : tie.After-slice-known20 Inv-loop μ-loop → tie.After-keep-held Inv-loop μ-loop
+abbrev kept : tie.After-slice-known22 Inv-loop μ-loop → tie.After-keep-held Inv-loop μ-loop
 kept c = c .before .before
 
 -- ---- needs
@@ -87,7 +87,7 @@ add-wrote : tie.Need-add-wrote Inv-loop μ-loop
 add-wrote c =
     let done = answered c in
     let took = asked done in
-    omega (arith, done .answer-line .ensures .few, turn took .loop .inv .space, turn took .loop .inv .wide, took .before .before .before .goes-on .ensures .wide (took .before .before .if1 .taken), start (turn took) .good .1 .1 .1 .1 .1 .1 .1 .1 .1 .0 .0)
+    omega (arith, done .answer-line .ensures .few, turn took .loop .inv .space, turn took .loop .inv .wide, took .before .before .before .goes-on .ensures .wide (took .before .before .if1 .taken), start (turn took) .good .1 .1 .1 .1 .1 .1 .1 .1 .1 .1 .0 .0)
 
 loop-less : tie.Need-loop-less Inv-loop μ-loop
 loop-less c = omega (arith, asked (answered c) .take-line .ensures .further (omega (arith, asked (answered c) .before .before .before .goes-on .ensures .some (asked (answered c) .before .before .if1 .taken))), asked (answered c) .take-line .ensures .within)
@@ -98,7 +98,7 @@ loop-again c =
     let took = asked done in
     let inv = turn took .loop .inv in
     walk-turns inv (took .before .before .before .goes-on .ensures) (took .before .before .if1 .taken) (took .take-line .ensures)
-    (done .answer-line .kept .1 .1 .1 .1 .1 .1 .1 .1 .1 .0)
+    (done .answer-line .kept .1 .1 .1 .1 .1 .1 .1 .1 .1 .1 .0)
     (record {
       head = done .answer-line .kept .0 ∙ inv .room .head;
       zones = done .answer-line .kept .1 .0 ∙ inv .room .zones;
@@ -107,6 +107,7 @@ loop-again c =
       starts = done .answer-line .kept .1 .1 .1 .1 .0 ∙ inv .room .starts;
       entries = done .answer-line .kept .1 .1 .1 .1 .1 .0 ∙ inv .room .entries;
       rosters = done .answer-line .kept .1 .1 .1 .1 .1 .1 .0 ∙ inv .room .rosters;
+      tallies = done .answer-line .kept .1 .1 .1 .1 .1 .1 .1 .0 ∙ inv .room .tallies;
     })
     (done .answer-line .ensures)
 
@@ -135,10 +136,13 @@ same-length-7 : tie.Need-same-length-7 Inv-loop μ-loop
 same-length-7 c = omega (arith, left (kept c) .loop .inv .room .rosters, start (left (kept c)) .pre .room .rosters)
 
 same-length-8 : tie.Need-same-length-8 Inv-loop μ-loop
-same-length-8 c = omega (arith, kept c .keep-held .kept .0, left (kept c) .loop .inv .long, start (left (kept c)) .pre .long)
+same-length-8 c = omega (arith, left (kept c) .loop .inv .room .tallies, start (left (kept c)) .pre .room .tallies)
 
 same-length-9 : tie.Need-same-length-9 Inv-loop μ-loop
-same-length-9 c = omega (arith, left (kept c) .loop .inv .wide)
+same-length-9 c = omega (arith, kept c .keep-held .kept .0, left (kept c) .loop .inv .long, start (left (kept c)) .pre .long)
+
+same-length-10 : tie.Need-same-length-10 Inv-loop μ-loop
+same-length-10 c = omega (arith, left (kept c) .loop .inv .wide)
 
 returns : tie.Need-returns Inv-loop μ-loop
 returns c = walk-ends (left (kept c) .loop .inv) (kept c .before .before .before .goes-on .ensures) (kept c .before .before .if1 .left) (kept c .keep-held .ensures)
@@ -175,4 +179,5 @@ fill-lines-spec =
     same-length-7
     same-length-8
     same-length-9
+    same-length-10
     returns)

@@ -26,20 +26,26 @@ returns-6 c = refused-room (λ r. c .if6 .taken (r .entries))
 returns-7 : tie.Need-returns-7
 returns-7 c = refused-room (λ r. c .if7 .taken (r .rosters))
 
-returns-8 : tie.Need-returns-8
-returns-8 c = refused-held (λ l f. c .if8 .taken l)
+mul-if8 : tie.Need-mul-if8
+mul-if8 c = search needs
 
-shared-slice-read-if9 : tie.Need-shared-slice-read-if9
-shared-slice-read-if9 c = search needs
+returns-8 : tie.Need-returns-8
+returns-8 c = refused-room (λ r. c .if8 .taken (r .tallies))
 
 returns-9 : tie.Need-returns-9
-returns-9 c = refused-held (λ l f. omega (arith, f, c .if9 .taken))
+returns-9 c = refused-held (λ l f. c .if9 .taken l)
+
+shared-slice-read-if10 : tie.Need-shared-slice-read-if10
+shared-slice-read-if10 c = search needs
 
 returns-10 : tie.Need-returns-10
-returns-10 c = refused-out (search needs) (omega arith) (omega arith) (omega arith)
+returns-10 c = refused-held (λ l f. omega (arith, f, c .if10 .taken))
 
 returns-11 : tie.Need-returns-11
-returns-11 c = refused-none (search needs) (omega arith) (omega arith) (omega arith)
+returns-11 c = refused-out (search needs) (omega arith) (omega arith) (omega arith)
+
+returns-12 : tie.Need-returns-12
+returns-12 c = refused-none (search needs) (omega arith) (omega arith) (omega arith)
 
 pub refuse-spec : {M : Type 1} → statement M
 refuse-spec =
@@ -52,8 +58,10 @@ refuse-spec =
     returns-5
     returns-6
     returns-7
+    mul-if8
     returns-8
-    shared-slice-read-if9
     returns-9
+    shared-slice-read-if10
     returns-10
-    returns-11)
+    returns-11
+    returns-12)

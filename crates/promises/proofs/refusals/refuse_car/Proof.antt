@@ -15,7 +15,7 @@ use Rattle.promises.proofs.refusals.refuse_car.Tie as tie
 -- ---- stations: from each the one before it
 
 abbrev start : tie.After-sized → tie.Start
-start c = c .before .before .before .before .before .before .before .before
+start c = c .before .before .before .before .before .before .before .before .before
 
 abbrev asked : tie.Else1 → tie.After-sized
 asked c = c .before
@@ -24,7 +24,7 @@ abbrev passed : tie.Else2 → tie.Else1
 passed c = c .before .before
 
 abbrev whole : tie.Start → Tables
-whole c = tables (c .args .head .now) (c .args .zones .now) (c .args .cars .now) (c .args .spots .now) (c .args .starts .now) (c .args .entries .now) (c .args .rosters .now)
+whole c = tables (c .args .head .now) (c .args .zones .now) (c .args .cars .now) (c .args .spots .now) (c .args .starts .now) (c .args .entries .now) (c .args .rosters .now) (c .args .tallies .now)
 
 own : (c : tie.Else1) → sized (whole (start (asked c))) ≡ true
 own c = holds (asked c .sized .ensures) (c .if1 .left)

@@ -13,10 +13,10 @@ refuse-car-requires : tie.Need-refuse-car-requires
 refuse-car-requires c κs = search needs
 
 abbrev start : tie.Else1 → tie.Start
-start c = c .before .before .before .before .before .before .before .before .before
+start c = c .before .before .before .before .before .before .before .before .before .before
 
 abbrev whole : tie.Start → Tables
-whole c = tables (c .args .head .now) (c .args .zones .now) (c .args .cars .now) (c .args .spots .now) (c .args .starts .now) (c .args .entries .now) (c .args .rosters .now)
+whole c = tables (c .args .head .now) (c .args .zones .now) (c .args .cars .now) (c .args .spots .now) (c .args .starts .now) (c .args .entries .now) (c .args .rosters .now) (c .args .tallies .now)
 
 ok : (c : tie.Else1) → Placed (whole (start c)) (start c .args .car)
 ok c = placed-there _ _ (sym (c .before .refuse-car .ensures) ∙ c .if1 .left)

@@ -13,10 +13,10 @@ use Rattle.readings.proofs.roster.refuse_roster.Statement.{statement}
 use Rattle.readings.proofs.roster.refuse_roster.Tie as tie
 
 abbrev start : tie.After-refuse-zone → tie.Start
-start c = c .before .before .before .before .before .before .before .before .before
+start c = c .before .before .before .before .before .before .before .before .before .before
 
 abbrev whole : tie.Start → Tables
-whole c = tables (c .args .head .now) (c .args .zones .now) (c .args .cars .now) (c .args .spots .now) (c .args .starts .now) (c .args .entries .now) (c .args .rosters .now)
+whole c = tables (c .args .head .now) (c .args .zones .now) (c .args .cars .now) (c .args .spots .now) (c .args .starts .now) (c .args .entries .now) (c .args .rosters .now) (c .args .tallies .now)
 
 abbrev asks : tie.Start → List Bar
 asks c = means (whole c) (removing (c .args .zone)) .checks

@@ -11,10 +11,10 @@ use Rattle.readings.proofs.roster.roster_of_zone.Statement.{statement}
 use Rattle.readings.proofs.roster.roster_of_zone.Tie as tie
 
 abbrev start : tie.Else1 → tie.Start
-start c = c .before .before .before .before .before .before .before .before .before .before .before
+start c = c .before .before .before .before .before .before .before .before .before .before .before .before
 
 abbrev whole : tie.Start → Tables
-whole c = tables (c .args .head .now) (c .args .zones .now) (c .args .cars .now) (c .args .spots .now) (c .args .starts .now) (c .args .entries .now) (c .args .rosters .now)
+whole c = tables (c .args .head .now) (c .args .zones .now) (c .args .cars .now) (c .args .spots .now) (c .args .starts .now) (c .args .entries .now) (c .args .rosters .now) (c .args .tallies .now)
 
 ok : (c : tie.Else1) → Standing (whole (start c)) (start c .args .zone) (start c .args .inside .now)
 ok c = standing _ _ _ (sym (c .before .refuse-roster .ensures) ∙ c .if1 .left)

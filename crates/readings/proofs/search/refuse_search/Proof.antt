@@ -14,12 +14,12 @@ use Rattle.readings.proofs.search.refuse_search.Statement.{statement}
 use Rattle.readings.proofs.search.refuse_search.Tie as tie
 
 abbrev whole : tie.Start → Tables
-whole c = tables (c .args .head .now) (c .args .zones .now) (c .args .cars .now) (c .args .spots .now) (c .args .starts .now) (c .args .entries .now) (c .args .rosters .now)
+whole c = tables (c .args .head .now) (c .args .zones .now) (c .args .cars .now) (c .args .spots .now) (c .args .starts .now) (c .args .entries .now) (c .args .rosters .now) (c .args .tallies .now)
 
 -- ---- stations: from each the one before it
 
 abbrev start : tie.After-sized → tie.Start
-start c = c .before .before .before .before .before .before .before .before .before
+start c = c .before .before .before .before .before .before .before .before .before .before
 
 abbrev asked : tie.Else1 → tie.After-sized
 asked c = c .before

@@ -12,7 +12,7 @@ use Rattle.readings.proofs.search.search_zones.Tie as tie
 -- ---- stations
 
 abbrev start : tie.Else1 → tie.Start
-start c = c .before .before .before .before .before .before .before .before .before .before .before
+start c = c .before .before .before .before .before .before .before .before .before .before .before .before
 
 abbrev passed : tie.After-locate → tie.Else1
 passed c = c .before .before
@@ -21,7 +21,7 @@ abbrev located : tie.After-x → tie.After-locate
 located c = c .before .before
 
 abbrev whole : tie.Start → Tables
-whole c = tables (c .args .head .now) (c .args .zones .now) (c .args .cars .now) (c .args .spots .now) (c .args .starts .now) (c .args .entries .now) (c .args .rosters .now)
+whole c = tables (c .args .head .now) (c .args .zones .now) (c .args .cars .now) (c .args .spots .now) (c .args .starts .now) (c .args .entries .now) (c .args .rosters .now) (c .args .tallies .now)
 
 ok : (c : tie.Else1) → Searchable (whole (start c)) (start c .args .p) (start c .args .found .now)
 ok c = searchable _ _ _ (sym (c .before .refuse-search .ensures) ∙ c .if1 .left)

@@ -11,13 +11,13 @@ use Rattle.records.proofs.changes.leave_record.Tie as tie
 -- ---- stations: from each the one before it
 
 abbrev start : tie.After-places-in → tie.Start
-start c = c .before .before .before .before .before .before .before .before .before
+start c = c .before .before .before .before .before .before .before .before .before .before
 
 abbrev placed : tie.After-leave-map → tie.After-places-in
-placed c = c .before .before .before .before .before
+placed c = c .before .before .before .before .before .before
 
 abbrev called : tie.After-write-left-arg → tie.After-leave-map
-called c = c .before .before .before .before .before .before .before
+called c = c .before .before .before .before .before .before .before .before .before
 
 -- the starts that the town needs are there
 within : (c : tie.After-places-in) → c .places-in .result ≤ length (start c .args .starts .now)
@@ -52,6 +52,9 @@ same-length-2 c = search needs
 same-length-3 : tie.Need-same-length-3
 same-length-3 c = search needs
 
+same-length-4 : tie.Need-same-length-4
+same-length-4 c = search needs
+
 returns : tie.Need-returns
 returns c =
     let wrote = c .before .before in
@@ -72,4 +75,5 @@ leave-record-spec =
     same-length
     same-length-2
     same-length-3
+    same-length-4
     returns)

@@ -13,7 +13,7 @@ use Rattle.records.proofs.changes.open_record.Tie as tie
 -- ---- stations: from each the one before it
 
 abbrev start : tie.After-open-room → tie.Start
-start c = c .before .before .before .before .before .before .before .before .before
+start c = c .before .before .before .before .before .before .before .before .before .before
 
 abbrev refused : tie.After-write-opened → tie.After-n
 refused c = c .before .before .before
@@ -22,10 +22,10 @@ abbrev counted : tie.After-open-town-arg4 → tie.After-many
 counted c = c .before .before .before .before .before
 
 abbrev lent : tie.After-open-town → tie.After-open-town-arg4
-lent c = c .before .before .before .before
+lent c = c .before .before .before .before .before
 
 abbrev opened : tie.After-write-opened-arg2 → tie.After-open-town
-opened c = c .before .before .before .before .before .before .before .before .before .before .before .before .before .before .before
+opened c = c .before .before .before .before .before .before .before .before .before .before .before .before .before .before .before .before .before
 
 -- ---- what is known there
 
@@ -113,6 +113,9 @@ same-length-8 c = search needs
 same-length-9 : tie.Need-same-length-9
 same-length-9 c = search needs
 
+same-length-10 : tie.Need-same-length-10
+same-length-10 c = search needs
+
 returns-2 : tie.Need-returns-2
 returns-2 c =
     let wrote = c .before .before in
@@ -143,4 +146,5 @@ open-record-spec =
     same-length-7
     same-length-8
     same-length-9
+    same-length-10
     returns-2)

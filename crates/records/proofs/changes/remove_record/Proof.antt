@@ -11,13 +11,13 @@ use Rattle.records.proofs.changes.remove_record.Tie as tie
 -- ---- stations: from each the one before it
 
 abbrev start : tie.After-places-in → tie.Start
-start c = c .before .before .before .before .before .before .before .before .before .before
+start c = c .before .before .before .before .before .before .before .before .before .before .before
 
 abbrev placed : tie.After-remove-zone → tie.After-places-in
-placed c = c .before .before .before .before .before
+placed c = c .before .before .before .before .before .before
 
 abbrev called : tie.After-write-removed-arg → tie.After-remove-zone
-called c = c .before .before .before .before .before .before .before .before .before
+called c = c .before .before .before .before .before .before .before .before .before .before .before
 
 -- the starts that the town needs are there
 within : (c : tie.After-places-in) → c .places-in .result ≤ length (start c .args .starts .now)
@@ -55,6 +55,9 @@ same-length-4 c = search needs
 same-length-5 : tie.Need-same-length-5
 same-length-5 c = search needs
 
+same-length-6 : tie.Need-same-length-6
+same-length-6 c = search needs
+
 returns : tie.Need-returns
 returns c =
     let wrote = c .before .before in
@@ -76,4 +79,5 @@ remove-record-spec =
     same-length-3
     same-length-4
     same-length-5
+    same-length-6
     returns)

@@ -16,16 +16,16 @@ use Rattle.records.proofs.changes.report_record.Tie as tie
 -- ---- stations: from each the one before it
 
 abbrev start : tie.After-places-in → tie.Start
-start c = c .before .before .before .before .before .before .before .before .before
+start c = c .before .before .before .before .before .before .before .before .before .before
 
 abbrev placed : tie.After-position-of → tie.After-places-in
-placed c = c .before .before .before .before .before
+placed c = c .before .before .before .before .before .before
 
 abbrev located : tie.After-report-car → tie.After-position-of
 located c = c .before .before .before
 
 abbrev called : tie.After-write-reported-arg → tie.After-report-car
-called c = c .before .before .before .before .before .before .before .before .before .before .before
+called c = c .before .before .before .before .before .before .before .before .before .before .before .before .before
 
 -- the starts that the town needs are there
 within : (c : tie.After-places-in) → c .places-in .result ≤ length (start c .args .starts .now)
@@ -72,6 +72,9 @@ same-length-3 c = search needs
 same-length-4 : tie.Need-same-length-4
 same-length-4 c = search needs
 
+same-length-5 : tie.Need-same-length-5
+same-length-5 c = search needs
+
 returns : tie.Need-returns
 returns c =
     let wrote = c .before .before in
@@ -98,4 +101,5 @@ report-record-spec =
     same-length-2
     same-length-3
     same-length-4
+    same-length-5
     returns)

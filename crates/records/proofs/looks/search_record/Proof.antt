@@ -16,7 +16,7 @@ use Rattle.records.proofs.looks.search_record.Tie as tie
 -- ---- stations: from each the one before it
 
 abbrev start : tie.After-places-in → tie.Start
-start c = c .before .before .before .before .before .before .before .before .before
+start c = c .before .before .before .before .before .before .before .before .before .before
 
 abbrev placed : tie.After-position-of → tie.After-places-in
 placed c = c .before .before

@@ -6,11 +6,11 @@ use Rattle.replay.proofs.answers.answer_piece.Tie as tie
 
 -- ---- stations: from each an earlier one
 
-abbrev asked : tie.After-fill-lines-arg9 → tie.Else1
-asked c = c .before .before .before .before .before .before .before .before .before
+abbrev asked : tie.After-fill-lines-arg10 → tie.Else1
+asked c = c .before .before .before .before .before .before .before .before .before .before
 
-abbrev done : tie.After-slice-known18 → tie.After-fill-lines
-done c = c .before .before .before .before .before .before .before .before .before .before .before .before .before .before .before .before .before .before
+abbrev done : tie.After-slice-known20 → tie.After-fill-lines
+done c = c .before .before .before .before .before .before .before .before .before .before .before .before .before .before .before .before .before .before .before .before
 
 -- ---- needs
 
@@ -44,14 +44,14 @@ same-length-8 c = search needs
 same-length-9 : tie.Need-same-length-9
 same-length-9 c = search needs
 
+same-length-10 : tie.Need-same-length-10
+same-length-10 c = search needs
+
 returns : tie.Need-returns
 returns c = fills-refused (c .before .refuse .ensures) (c .if1 .taken)
 
 fill-lines-requires : tie.Need-fill-lines-requires
 fill-lines-requires c κs = lending (asked c .before .refuse .ensures) (asked c .if1 .left)
-
-same-length-10 : tie.Need-same-length-10
-same-length-10 c = search needs
 
 same-length-11 : tie.Need-same-length-11
 same-length-11 c = search needs
@@ -77,6 +77,12 @@ same-length-17 c = search needs
 same-length-18 : tie.Need-same-length-18
 same-length-18 c = search needs
 
+same-length-19 : tie.Need-same-length-19
+same-length-19 c = search needs
+
+same-length-20 : tie.Need-same-length-20
+same-length-20 c = search needs
+
 returns-2 : tie.Need-returns-2
 returns-2 c = fills-passed (asked (done c .before) .before .refuse .ensures) (asked (done c .before) .if1 .left) (done c .fill-lines .ensures)
 
@@ -94,9 +100,9 @@ answer-piece-spec =
     same-length-7
     same-length-8
     same-length-9
+    same-length-10
     returns
     fill-lines-requires
-    same-length-10
     same-length-11
     same-length-12
     same-length-13
@@ -105,4 +111,6 @@ answer-piece-spec =
     same-length-16
     same-length-17
     same-length-18
+    same-length-19
+    same-length-20
     returns-2)

@@ -1,21 +1,22 @@
--- `sound`: the zones fit, the cars are on the map, the entries, the starts and the rosters are right, asked in this order.
+-- `sound`: the zones fit, the cars are on the map, the entries, the starts, the rosters and the counts are right, asked in this order.
 use mathlib.Core.Bool.{true}
 use mathlib.Core.Path.{_≡_, sym, _∙_}
 use borrow.Author.Tests.{not-true, not-false}
+use lib.ListN.{length}
 use Rattle.tables.specs.Tables.{Tables, tables}
-use Rattle.soundness.specs.Tests.{every, zoneFits, carFits, entriesRight, inUse}
-use Rattle.soundness.specs.SweepLaws.{Known, zoned, parked, fitting, riding, starts-few, bytes-many, last-start, entries-few, unsound-zones, unsound-cars, unsound-entries, unsound-starts, sound-rosters}
+use Rattle.soundness.specs.Tests.{every, zoneFits, carFits, entriesRight, startRight, inUse}
+use Rattle.soundness.specs.SweepLaws.{Known, zoned, parked, fitting, riding, starts-few, bytes-many, rows-there, counts-many, last-start, entries-few, unsound-zones, unsound-cars, unsound-entries, unsound-starts, unsound-rosters, sound-counts}
 use borrow.Author.Needs.{needs}
 use Rattle.soundness.proofs.sweep.sound.Statement.{statement}
 use Rattle.soundness.proofs.sweep.sound.Tie as tie
 
 abbrev whole : tie.Start → Tables
-whole c = tables (c .args .head .now) (c .args .zones .now) (c .args .cars .now) (c .args .spots .now) (c .args .starts .now) (c .args .entries .now) (c .args .rosters .now)
+whole c = tables (c .args .head .now) (c .args .zones .now) (c .args .cars .now) (c .args .spots .now) (c .args .starts .now) (c .args .entries .now) (c .args .rosters .now) (c .args .tallies .now)
 
 -- ---- stations: from each the one before it
 
 abbrev start : tie.After-shape-in → tie.Start
-start c = c .before .before .before .before .before .before .before .before
+start c = c .before .before .before .before .before .before .before .before .before
 
 abbrev shaped : tie.After-wide2 → tie.After-shape-in
 shaped c = c .before .before .before .before
@@ -31,6 +32,9 @@ counted c = c .before .before
 
 abbrev listed : tie.Else3 → tie.After-wide3
 listed c = c .before .before
+
+abbrev started : tie.Else4 → tie.Else3
+started c = c .before .before
 
 -- ---- what is known there
 
@@ -51,6 +55,9 @@ last c = last-start (known (read (fit (counted c)))) _ (c .wide3 .ensures)
 
 lists-right : (c : tie.Else3) → let at = read (fit (counted (listed c))) in entriesRight (shaped at .shape-in .result) (at .before .before .wide .result) (town at .records .zones) (town at .derived .entries) (listed c .wide3 .result) ≡ true
 lists-right c = sym (c .before .entries-right .ensures) ∙ not-false _ (c .if3 .left)
+
+starts-right : (c : tie.Else4) → let used = listed (started c) in let at = town (read (fit (counted used))) in every (startRight (at .derived .starts) (at .derived .entries) (used .wide3 .result)) (length (at .derived .starts)) ≡ true
+starts-right c = sym (c .before .starts-right .ensures) ∙ not-false _ (c .if4 .left)
 
 -- ---- needs
 
@@ -116,19 +123,32 @@ returns-4 c =
 
 rosters-right-requires : tie.Need-rosters-right-requires
 rosters-right-requires c κs =
-    let two = counted (listed (c .before .before)) in
+    let two = counted (listed (started c)) in
     let one = fit two in
     let k = known (read one) in
     (fitting k (zones-right one), (riding k (cars-right two), bytes-many k))
 
 returns-5 : tie.Need-returns-5
 returns-5 c =
-    let four = c .before in
-    let three = four .before .before in
+    let four = c .before .before in
+    let three = started four in
     let used = listed three in
     let two = counted used in
     let one = fit two in
-    c .rosters-right .ensures ∙ sound-rosters (known (read one)) (zones-right one) (cars-right two) _ (last used) (lists-right three) (sym (four .before .starts-right .ensures) ∙ not-false _ (four .if4 .left))
+    unsound-rosters (known (read one)) (zones-right one) (cars-right two) _ (last used) (lists-right three) (starts-right four) (sym (c .before .rosters-right .ensures) ∙ not-true _ (c .if5 .taken))
+
+counts-right-requires : tie.Need-counts-right-requires
+counts-right-requires c κs = let k = known (read (fit (counted (listed (started (c .before .before)))))) in (rows-there k, counts-many k)
+
+returns-6 : tie.Need-returns-6
+returns-6 c =
+    let five = c .before in
+    let four = five .before .before in
+    let three = started four in
+    let used = listed three in
+    let two = counted used in
+    let one = fit two in
+    c .counts-right .ensures ∙ sound-counts (known (read one)) (zones-right one) (cars-right two) _ (last used) (lists-right three) (starts-right four) (sym (five .before .rosters-right .ensures) ∙ not-false _ (five .if5 .left))
 
 pub sound-spec : {M : Type 1} → statement M
 sound-spec =
@@ -152,4 +172,6 @@ sound-spec =
     starts-right-requires
     returns-4
     rosters-right-requires
-    returns-5)
+    returns-5
+    counts-right-requires
+    returns-6)

@@ -1,4 +1,4 @@
--- `long` says no at the first table of another length, and yes past all seven.
+-- `long` says no at the first table of another length, and yes past all eight.
 use mathlib.Core.Bool.{false}
 use mathlib.Core.Path.{_≡_, sym}
 use native.Mathlib.Nat.{mul-le-mul}
@@ -13,17 +13,17 @@ use Rattle.tables.proofs.lengths.long.Tie as tie
 
 -- ---- stations: from each the one before it
 
-abbrev start : tie.After-shared-slice-known7 → tie.Start
-start c = c .before .before .before .before .before .before .before
+abbrev start : tie.After-shared-slice-known8 → tie.Start
+start c = c .before .before .before .before .before .before .before .before
 
-abbrev lent : tie.Else4 → tie.After-shared-slice-known7
+abbrev lent : tie.Else4 → tie.After-shared-slice-known8
 lent c = c .before .before .before .before
 
 abbrev recorded : tie.Else6 → tie.Else4
 recorded c = c .before .before .before
 
 abbrev whole : tie.Start → Tables
-whole c = tables (c .args .head .now) (c .args .zones .now) (c .args .cars .now) (c .args .spots .now) (c .args .starts .now) (c .args .entries .now) (c .args .rosters .now)
+whole c = tables (c .args .head .now) (c .args .zones .now) (c .args .cars .now) (c .args .spots .now) (c .args .starts .now) (c .args .entries .now) (c .args .rosters .now) (c .args .tallies .now)
 
 -- ---- what is asked there
 
@@ -75,8 +75,14 @@ mul-if7 c = let room = start (lent (recorded c)) .pre .1 in let most = mul-le-mu
 returns-7 : tie.Need-returns-7
 returns-7 c = let at = start (lent (recorded (c .before))) in wrong at (λ (h : Right at). omega arith)
 
+mul-if8 : tie.Need-mul-if8
+mul-if8 c = search needs
+
 returns-8 : tie.Need-returns-8
-returns-8 c = let at = start (lent (recorded (c .before))) in sym (→long (at .args .s) (at .args .Z) (at .args .C) (at .args .E) (whole at) (omega arith))
+returns-8 c = let at = start (lent (recorded (c .before .before))) in wrong at (λ (h : Right at). omega arith)
+
+returns-9 : tie.Need-returns-9
+returns-9 c = let at = start (lent (recorded (c .before .before))) in sym (→long (at .args .s) (at .args .Z) (at .args .C) (at .args .E) (whole at) (omega arith))
 
 pub long-spec : {M : Type 1} → statement M
 long-spec =
@@ -95,4 +101,6 @@ long-spec =
     returns-6
     mul-if7
     returns-7
-    returns-8)
+    mul-if8
+    returns-8
+    returns-9)

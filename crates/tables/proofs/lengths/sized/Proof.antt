@@ -13,14 +13,14 @@ use Rattle.tables.proofs.lengths.sized.Statement.{statement}
 use Rattle.tables.proofs.lengths.sized.Tie as tie
 
 abbrev whole : tie.Start → Tables
-whole c = tables (c .args .head .now) (c .args .zones .now) (c .args .cars .now) (c .args .spots .now) (c .args .starts .now) (c .args .entries .now) (c .args .rosters .now)
+whole c = tables (c .args .head .now) (c .args .zones .now) (c .args .cars .now) (c .args .spots .now) (c .args .starts .now) (c .args .entries .now) (c .args .rosters .now) (c .args .tallies .now)
 
 -- ---- stations: from each the one before it
 
-abbrev start : tie.After-shared-slice-known7 → tie.Start
-start c = c .before .before .before .before .before .before .before
+abbrev start : tie.After-shared-slice-known8 → tie.Start
+start c = c .before .before .before .before .before .before .before .before
 
-abbrev lent : tie.After-allowed → tie.After-shared-slice-known7
+abbrev lent : tie.After-allowed → tie.After-shared-slice-known8
 lent c = c .before .before .before
 
 abbrev asked : tie.Else2 → tie.After-allowed

@@ -1,4 +1,4 @@
--- `add_zone` counts the cut, and writes the zone's record, its keys and its row, past the refusals.
+-- `add_zone` counts the cut, and writes the zone's record, its keys, its row and its count, past the refusals.
 use Prim.Native.Nat.{_-_, _<_}
 use mathlib.Core.Path.{_≡_, refl, sym, _∙_}
 use native.Mathlib.Omega.{arith}
@@ -6,7 +6,7 @@ use lib.ListN.{length, getD}
 use Rattle.tables.specs.Tables.{Tables, tables}
 use Rattle.model.specs.Model.{meaning}
 use Rattle.promises.specs.PromiseLaws.{keeps-refused}
-use Rattle.zones.specs.AddLaws.{New, new-zone, record-there, cut-room, keys-there, row-there, add-full, add-kept}
+use Rattle.zones.specs.AddLaws.{New, new-zone, record-there, cut-room, keys-there, row-there, count-there, inside-few, add-full, add-kept}
 use borrow.Author.Needs.{needs}
 use Rattle.zones.proofs.add.add_zone.Statement.{statement}
 use Rattle.zones.proofs.add.add_zone.Tie as tie
@@ -14,15 +14,15 @@ use Rattle.zones.proofs.add.add_zone.Tie as tie
 -- ---- stations: from each the one before it
 
 abbrev start : tie.Else1 → tie.Start
-start c = c .before .before .before .before .before .before .before .before .before .before .before .before .before
+start c = c .before .before .before .before .before .before .before .before .before .before .before .before .before .before .before
 
-abbrev shaped : tie.After-slice-known5 → tie.After-shape-in
+abbrev shaped : tie.After-slice-known6 → tie.After-shape-in
 shaped c = c .before
 
 abbrev passed : tie.After-shape-in → tie.Else1
 passed c = c .before
 
-abbrev read : tie.After-cut-count → tie.After-slice-known5
+abbrev read : tie.After-cut-count → tie.After-slice-known6
 read c = c .before
 
 abbrev counted : tie.Else2 → tie.After-cut-count
@@ -40,8 +40,11 @@ zoned c = c .before .before .before .before .before
 abbrev keyed : tie.After-fill-row → tie.After-add-keys
 keyed c = c .before .before .before .before .before .before
 
+abbrev rowed : tie.After-write-count → tie.After-fill-row
+rowed c = c .before .before .before .before
+
 abbrev whole : tie.Start → Tables
-whole c = tables (c .args .head .now) (c .args .zones .now) (c .args .cars .now) (c .args .spots .now) (c .args .starts .now) (c .args .entries .now) (c .args .rosters .now)
+whole c = tables (c .args .head .now) (c .args .zones .now) (c .args .cars .now) (c .args .spots .now) (c .args .starts .now) (c .args .entries .now) (c .args .rosters .now) (c .args .tallies .now)
 
 -- ---- what is known past the refusal
 
@@ -49,8 +52,8 @@ new : (c : tie.Else1) → New (whole (start c)) (start c .args .zone) (start c .
 new c = new-zone _ _ _ (sym (c .before .refuse-new .ensures) ∙ c .if1 .left)
 
 -- a start is a number of 32 bits
-small : (c : tie.After-slice-known5) → let starts = start (passed (shaped c)) .args .starts .now in getD starts (length starts - 1) 0 < 4294967296
-small c = omega (arith, c .slice-known5 .given (length (start (passed (shaped c)) .args .starts .now) - 1))
+small : (c : tie.After-slice-known6) → let starts = start (passed (shaped c)) .args .starts .now in getD starts (length starts - 1) 0 < 4294967296
+small c = omega (arith, c .slice-known6 .given (length (start (passed (shaped c)) .args .starts .now) - 1))
 
 -- ---- needs
 
@@ -68,6 +71,9 @@ same-length-3 c = search needs
 
 same-length-4 : tie.Need-same-length-4
 same-length-4 c = search needs
+
+same-length-5 : tie.Need-same-length-5
+same-length-5 c = search needs
 
 returns : tie.Need-returns
 unfolding meaning
@@ -94,9 +100,6 @@ cut-count-requires c κs = cut-room (new (passed (shaped c))) (shaped c .shape-i
 add-if2 : tie.Need-add-if2
 add-if2 c = omega (arith, small (read c), c .cut-count .ensures .few)
 
-same-length-5 : tie.Need-same-length-5
-same-length-5 c = search needs
-
 same-length-6 : tie.Need-same-length-6
 same-length-6 c = search needs
 
@@ -105,6 +108,12 @@ same-length-7 c = search needs
 
 same-length-8 : tie.Need-same-length-8
 same-length-8 c = search needs
+
+same-length-9 : tie.Need-same-length-9
+same-length-9 c = search needs
+
+same-length-10 : tie.Need-same-length-10
+same-length-10 c = search needs
 
 returns-2 : tie.Need-returns-2
 returns-2 c = let cut = c .before in let at = shaped (read cut) in add-full (new (passed at)) (at .shape-in .ensures) refl (cut .cut-count .ensures .is) (c .if2 .taken)
@@ -128,11 +137,15 @@ fill-row-requires c κs =
     let at = shaped (read (counted (roomed park))) in
     row-there (new (passed at)) (at .shape-in .ensures) (park .car-room .ensures)
 
-same-length-9 : tie.Need-same-length-9
-same-length-9 c = search needs
+cast-write-count : tie.Need-cast-write-count
+cast-write-count c =
+    let filled = c .before .before .before in
+    let park = parked (zoned (keyed filled)) in
+    let at = shaped (read (counted (roomed park))) in
+    omega (arith, inside-few (new (passed at)) (at .shape-in .ensures) (park .car-room .ensures) (filled .fill-row .ensures))
 
-same-length-10 : tie.Need-same-length-10
-same-length-10 c = search needs
+write-count-requires : tie.Need-write-count-requires
+write-count-requires c κs = let park = parked (zoned (keyed (c .before .before .before))) in count-there (new (passed (shaped (read (counted (roomed park))))))
 
 same-length-11 : tie.Need-same-length-11
 same-length-11 c = search needs
@@ -140,16 +153,26 @@ same-length-11 c = search needs
 same-length-12 : tie.Need-same-length-12
 same-length-12 c = search needs
 
+same-length-13 : tie.Need-same-length-13
+same-length-13 c = search needs
+
+same-length-14 : tie.Need-same-length-14
+same-length-14 c = search needs
+
+same-length-15 : tie.Need-same-length-15
+same-length-15 c = search needs
+
 returns-3 : tie.Need-returns-3
 returns-3 c =
-    let filled = c .before .before in
+    let tallied = c .before .before in
+    let filled = rowed tallied in
     let keys = keyed filled in
     let zone = zoned keys in
     let park = parked zone in
     let room = roomed park in
     let cut = counted room in
     let at = shaped (read cut) in
-    add-kept (new (passed at)) (at .shape-in .ensures) refl (cut .cut-count .ensures .is) (room .if2 .left) (park .car-room .ensures) (zone .write-zone .ensures) (keys .add-keys .ensures) (filled .fill-row .ensures)
+    add-kept (new (passed at)) (at .shape-in .ensures) refl (cut .cut-count .ensures .is) (room .if2 .left) (park .car-room .ensures) (zone .write-zone .ensures) (keys .add-keys .ensures) (filled .fill-row .ensures) (tallied .write-count .ensures)
 
 pub add-zone-spec : {M : Type 1} → statement M
 add-zone-spec =
@@ -160,6 +183,7 @@ add-zone-spec =
     same-length-2
     same-length-3
     same-length-4
+    same-length-5
     returns
     shape-in-requires
     sub-used
@@ -168,17 +192,21 @@ add-zone-spec =
     cast-used
     cut-count-requires
     add-if2
-    same-length-5
     same-length-6
     same-length-7
     same-length-8
+    same-length-9
+    same-length-10
     returns-2
     car-room-requires
     write-zone-requires
     add-keys-requires
     fill-row-requires
-    same-length-9
-    same-length-10
+    cast-write-count
+    write-count-requires
     same-length-11
     same-length-12
+    same-length-13
+    same-length-14
+    same-length-15
     returns-3)

@@ -18,7 +18,7 @@ use Rattle.zones.proofs.add.refuse_new.Tie as tie
 -- ---- stations: from each the one before it
 
 abbrev start : tie.After-sized → tie.Start
-start c = c .before .before .before .before .before .before .before .before
+start c = c .before .before .before .before .before .before .before .before .before
 
 abbrev asked : tie.Else1 → tie.After-sized
 asked c = c .before
@@ -30,7 +30,7 @@ abbrev down : tie.Else3 → tie.Else2
 down c = c .before .before
 
 abbrev whole : tie.Start → Tables
-whole c = tables (c .args .head .now) (c .args .zones .now) (c .args .cars .now) (c .args .spots .now) (c .args .starts .now) (c .args .entries .now) (c .args .rosters .now)
+whole c = tables (c .args .head .now) (c .args .zones .now) (c .args .cars .now) (c .args .spots .now) (c .args .starts .now) (c .args .entries .now) (c .args .rosters .now) (c .args .tallies .now)
 
 -- ---- what is known there
 

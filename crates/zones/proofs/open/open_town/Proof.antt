@@ -13,7 +13,7 @@ use Rattle.zones.proofs.open.open_town.Tie as tie
 -- ---- stations: from each the one before it
 
 abbrev start : tie.Else1 → tie.Start
-start c = c .before .before .before .before .before .before .before .before .before .before .before .before .before .before .before .before
+start c = c .before .before .before .before .before .before .before .before .before .before .before .before .before .before .before .before .before .before
 
 abbrev passed : tie.After-write-head → tie.Else1
 passed c = c .before .before
@@ -36,8 +36,11 @@ started c = c .before .before .before .before
 abbrev entered : tie.After-fill-bytes → tie.After-fill-words4
 entered c = c .before .before .before .before
 
+abbrev rowed : tie.After-fill-words5 → tie.After-fill-bytes
+rowed c = c .before .before .before .before
+
 abbrev whole : tie.Start → Tables
-whole c = tables (c .args .head .now) (c .args .zones .now) (c .args .cars .now) (c .args .spots .now) (c .args .starts .now) (c .args .entries .now) (c .args .rosters .now)
+whole c = tables (c .args .head .now) (c .args .zones .now) (c .args .cars .now) (c .args .spots .now) (c .args .starts .now) (c .args .entries .now) (c .args .rosters .now) (c .args .tallies .now)
 
 -- ---- what is known past the refusal
 
@@ -70,6 +73,9 @@ same-length-6 c = search needs
 same-length-7 : tie.Need-same-length-7
 same-length-7 c = search needs
 
+same-length-8 : tie.Need-same-length-8
+same-length-8 c = search needs
+
 returns : tie.Need-returns
 unfolding meaning
 returns c = keeps-refused _ _ _ _ (c .if1 .taken) (c .before .refuse-open .ensures) refl
@@ -95,8 +101,8 @@ fill-words-requires-4 c κs = search needs
 fill-bytes-requires : tie.Need-fill-bytes-requires
 fill-bytes-requires c κs = search needs
 
-same-length-8 : tie.Need-same-length-8
-same-length-8 c = search needs
+fill-words-requires-5 : tie.Need-fill-words-requires-5
+fill-words-requires-5 c κs = search needs
 
 same-length-9 : tie.Need-same-length-9
 same-length-9 c = search needs
@@ -116,16 +122,23 @@ same-length-13 c = search needs
 same-length-14 : tie.Need-same-length-14
 same-length-14 c = search needs
 
+same-length-15 : tie.Need-same-length-15
+same-length-15 c = search needs
+
+same-length-16 : tie.Need-same-length-16
+same-length-16 c = search needs
+
 returns-2 : tie.Need-returns-2
 returns-2 c =
-    let rosters = c .before .before in
+    let tallies = c .before .before in
+    let rosters = rowed tallies in
     let entries = entered rosters in
     let starts = started entries in
     let spots = spotted starts in
     let cars = parked spots in
     let zones = zoned cars in
     let head = headed zones in
-    open-kept _ _ (none (passed head)) (head .write-head .ensures) (zones .fill-words .ensures) (cars .fill-words2 .ensures) (spots .fill-floats .ensures) (starts .fill-words3 .ensures) (entries .fill-words4 .ensures) (rosters .fill-bytes .ensures)
+    open-kept _ _ (none (passed head)) (head .write-head .ensures) (zones .fill-words .ensures) (cars .fill-words2 .ensures) (spots .fill-floats .ensures) (starts .fill-words3 .ensures) (entries .fill-words4 .ensures) (rosters .fill-bytes .ensures) (tallies .fill-words5 .ensures)
 
 pub open-town-spec : {M : Type 1} → statement M
 open-town-spec =
@@ -139,6 +152,7 @@ open-town-spec =
     same-length-5
     same-length-6
     same-length-7
+    same-length-8
     returns
     write-head-requires
     fill-words-requires
@@ -147,11 +161,13 @@ open-town-spec =
     fill-words-requires-3
     fill-words-requires-4
     fill-bytes-requires
-    same-length-8
+    fill-words-requires-5
     same-length-9
     same-length-10
     same-length-11
     same-length-12
     same-length-13
     same-length-14
+    same-length-15
+    same-length-16
     returns-2)

@@ -16,7 +16,7 @@ use Rattle.zones.proofs.open.refuse_open.Tie as tie
 -- ---- stations: from each the one before it
 
 abbrev start : tie.After-new → tie.Start
-start c = c .before .before .before .before .before .before .before .before
+start c = c .before .before .before .before .before .before .before .before .before
 
 abbrev shaped : tie.After-known-told → tie.After-new
 shaped c = c .before .before .before
@@ -25,7 +25,7 @@ abbrev asked : tie.Else1 → tie.After-known-told
 asked c = c .before .before
 
 abbrev whole : tie.Start → Tables
-whole c = tables (c .args .head .now) (c .args .zones .now) (c .args .cars .now) (c .args .spots .now) (c .args .starts .now) (c .args .entries .now) (c .args .rosters .now)
+whole c = tables (c .args .head .now) (c .args .zones .now) (c .args .cars .now) (c .args .spots .now) (c .args .starts .now) (c .args .entries .now) (c .args .rosters .now) (c .args .tallies .now)
 
 -- ---- what is known there
 

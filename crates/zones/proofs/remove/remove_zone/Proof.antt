@@ -1,10 +1,10 @@
--- `remove_zone` clears the zone's record, its keys and its row, past the refusals.
+-- `remove_zone` clears the zone's record, its keys, its row and its count, past the refusals.
 use mathlib.Core.Path.{_≡_, refl, sym, _∙_}
 use native.Mathlib.Omega.{arith}
 use Rattle.tables.specs.Tables.{Tables, tables}
 use Rattle.model.specs.Model.{meaning}
 use Rattle.promises.specs.PromiseLaws.{keeps-refused}
-use Rattle.zones.specs.RemoveLaws.{There, zone-there, record-there, row-there, remove-kept}
+use Rattle.zones.specs.RemoveLaws.{There, zone-there, record-there, row-there, count-there, remove-kept}
 use borrow.Author.Needs.{needs}
 use Rattle.zones.proofs.remove.remove_zone.Statement.{statement}
 use Rattle.zones.proofs.remove.remove_zone.Tie as tie
@@ -12,7 +12,7 @@ use Rattle.zones.proofs.remove.remove_zone.Tie as tie
 -- ---- stations: from each the one before it
 
 abbrev start : tie.Else1 → tie.Start
-start c = c .before .before .before .before .before .before .before .before .before .before .before .before .before
+start c = c .before .before .before .before .before .before .before .before .before .before .before .before .before .before .before
 
 abbrev passed : tie.After-car-room → tie.Else1
 passed c = c .before
@@ -26,8 +26,11 @@ zoned c = c .before .before .before .before .before
 abbrev dropped : tie.After-clear-row → tie.After-drop-keys
 dropped c = c .before .before .before .before .before .before
 
+abbrev rowed : tie.After-write-count → tie.After-clear-row
+rowed c = c .before .before .before .before
+
 abbrev whole : tie.Start → Tables
-whole c = tables (c .args .head .now) (c .args .zones .now) (c .args .cars .now) (c .args .spots .now) (c .args .starts .now) (c .args .entries .now) (c .args .rosters .now)
+whole c = tables (c .args .head .now) (c .args .zones .now) (c .args .cars .now) (c .args .spots .now) (c .args .starts .now) (c .args .entries .now) (c .args .rosters .now) (c .args .tallies .now)
 
 -- ---- what is known past the refusal
 
@@ -51,6 +54,9 @@ same-length-3 c = search needs
 same-length-4 : tie.Need-same-length-4
 same-length-4 c = search needs
 
+same-length-5 : tie.Need-same-length-5
+same-length-5 c = search needs
+
 returns : tie.Need-returns
 unfolding meaning
 returns c = keeps-refused _ _ _ _ (c .if1 .taken) (c .before .refuse-zone .ensures) refl
@@ -67,8 +73,8 @@ drop-keys-requires c κs = search needs
 clear-row-requires : tie.Need-clear-row-requires
 clear-row-requires c κs = let park = parked (zoned (c .before .before .before .before .before)) in rw (park .car-room .ensures) (row-there (there (passed park)))
 
-same-length-5 : tie.Need-same-length-5
-same-length-5 c = search needs
+write-count-requires : tie.Need-write-count-requires
+write-count-requires c κs = let park = parked (zoned (dropped (c .before .before .before))) in count-there (there (passed park))
 
 same-length-6 : tie.Need-same-length-6
 same-length-6 c = search needs
@@ -79,13 +85,20 @@ same-length-7 c = search needs
 same-length-8 : tie.Need-same-length-8
 same-length-8 c = search needs
 
+same-length-9 : tie.Need-same-length-9
+same-length-9 c = search needs
+
+same-length-10 : tie.Need-same-length-10
+same-length-10 c = search needs
+
 returns-2 : tie.Need-returns-2
 returns-2 c =
-    let cleared = c .before .before in
+    let counted = c .before .before in
+    let cleared = rowed counted in
     let keys = dropped cleared in
     let zone = zoned keys in
     let park = parked zone in
-    remove-kept (there (passed park)) (zone .clear-zone .ensures) (keys .drop-keys .ensures) (rw (park .car-room .ensures) at (cleared .clear-row .ensures))
+    remove-kept (there (passed park)) (park .car-room .ensures) (zone .clear-zone .ensures) (keys .drop-keys .ensures) (cleared .clear-row .ensures) (counted .write-count .ensures)
 
 pub remove-zone-spec : {M : Type 1} → statement M
 remove-zone-spec =
@@ -96,13 +109,16 @@ remove-zone-spec =
     same-length-2
     same-length-3
     same-length-4
+    same-length-5
     returns
     car-room-requires
     clear-zone-requires
     drop-keys-requires
     clear-row-requires
-    same-length-5
+    write-count-requires
     same-length-6
     same-length-7
     same-length-8
+    same-length-9
+    same-length-10
     returns-2)

@@ -1,8 +1,8 @@
--- Seven values are stored one after the other.
+-- Eight values are stored one after the other.
 use mathlib.Core.Path.{refl}
 use borrow.Author.Needs.{needs}
-use Rattle.values.proofs.tell.tell_seven.Statement.{statement}
-use Rattle.values.proofs.tell.tell_seven.Tie as tie
+use Rattle.values.proofs.tell.tell_eight.Statement.{statement}
+use Rattle.values.proofs.tell.tell_eight.Tie as tie
 
 tell-requires : tie.Need-tell-requires
 tell-requires c κs = search needs
@@ -25,14 +25,17 @@ tell-requires-6 c κs = search needs
 tell-requires-7 : tie.Need-tell-requires-7
 tell-requires-7 c κs = search needs
 
+tell-requires-8 : tie.Need-tell-requires-8
+tell-requires-8 c κs = search needs
+
 same-length : tie.Need-same-length
 same-length c = search needs
 
 returns : tie.Need-returns
 returns c = record { number = refl; values = cc }
 
-pub tell-seven-spec : {M : Type 1} → statement M
-tell-seven-spec =
+pub tell-eight-spec : {M : Type 1} → statement M
+tell-eight-spec =
     tie.close
     (tie.spec
     tell-requires
@@ -42,5 +45,6 @@ tell-seven-spec =
     tell-requires-5
     tell-requires-6
     tell-requires-7
+    tell-requires-8
     same-length
     returns)
