@@ -1,3 +1,4 @@
 pub mod Promise
 pub mod Events
 pub mod PromiseLaws
+pub mod StandingLaws

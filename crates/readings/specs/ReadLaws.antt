@@ -30,6 +30,7 @@ use Rattle.tables.specs.Lent.{both}
 use Rattle.promises.specs.Promise.{means, bars, Keeps}
 use Rattle.promises.specs.Events.{event, countTold, whereTold}
 use Rattle.promises.specs.PromiseLaws.{keeps-done}
+use Rattle.promises.specs.StandingLaws.{There}
 
 -- ---- where a car is
 
@@ -80,20 +81,7 @@ module _ {t : Tables} {z : ℕ} {b : List ℕ} (ok : Standing t z b) where
 
 -- ---- count
 
-pub record Counted (t : Tables) (z : ℕ) : Type 0 where
-  pub none : bars t (askCount z) ≡ 0
-  pub size : Sized t
-  pub zone : z < zoneRoom t
-
-pub counted : (t : Tables) (z : ℕ) → bars t (askCount z) ≡ 0 → Counted t z
-unfolding meaning
-counted t z none = let h = clear (means t (askCount z) .checks) refl none in record { none = none; size = sized→ t (h .0); zone = ltb-true z (zoneRoom t) (h .1 .0) }
-
-module _ {t : Tables} {z : ℕ} (ok : Counted t z) where
-  pub count-there : z * tally < length (t .derived .tallies)
-  count-there = omega (arith, ok .size .lengths .tallies, ok .zone)
-
-  -- the stored number is the roster's length
-  pub count-kept : Keeps (both t t) (countTold z (CountOf.Cars (getD (t .derived .tallies) (z * tally) 0)))
-  unfolding meaning first
-  count-kept = keeps-done t (askCount z) _ t (numbers (getD (t .derived .tallies) (z * tally) 0 ∷ [])) (ok .none) refl (λ any sound. (refl, (rw (count-sound t sound z (ok .zone)), refl)))
+-- the stored number is the roster's length
+pub count-kept : {t : Tables} {z : ℕ} → There t z → Keeps (both t t) (countTold z (CountOf.Cars (getD (t .derived .tallies) (z * tally) 0)))
+unfolding meaning first
+count-kept {t} {z} ok = keeps-done t (askCount z) _ t (numbers (getD (t .derived .tallies) (z * tally) 0 ∷ [])) (ok .none) refl (λ any sound. (refl, (rw (count-sound t sound z (ok .zone)), refl)))

@@ -14,6 +14,7 @@ use Rattle.order.specs.KeepLaws.{keep-ext, span→, length-span}
 use Rattle.model.specs.Model.{roster}
 use Rattle.tables.specs.Tables.{Tables, tally, zoneRoom, carRoom, townOf, rosterHas}
 use Rattle.tables.specs.Derived.{tallyOf, talliesOf}
+use Rattle.tables.specs.Sizes.{Sized}
 use Rattle.tables.specs.Sound.{Sound}
 use Rattle.tables.specs.RecordLaws.{tallies-fresh}
 use Rattle.tables.specs.RowLaws.{map-span, mapped, roster-byte}
@@ -39,6 +40,10 @@ module _ (t : Tables) where
   -- and so far by each zone's count
   pub counts-by : (l : List ℕ) → length l ≡ zoneRoom t * tally → ((z : ℕ) → z < zoneRoom t → getD l (z * tally) 0 ≡ length (roster (townOf t) z)) → l ≡ talliesOf t
   counts-by l e f = tallies-by l e (λ z j g h. let first : j ≡ 0 = omega arith in rw (first, add-zero (z * tally)) (f z g))
+
+-- a zone's count is in the table
+pub count-in : (t : Tables) → Sized t → (z : ℕ) → z < zoneRoom t → z * tally < length (t .derived .tallies)
+count-in t h z g = omega (arith, h .lengths .tallies)
 
 -- ---- sound tallies
 

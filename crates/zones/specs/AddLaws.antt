@@ -59,9 +59,6 @@ module _ {t : Tables} {z : ℕ} {r : Rect} (h : New t z r) where
   pub record-there : 4 * z + 4 ≤ length (t .records .zones)
   record-there = omega (arith, h .size .lengths .zones, h .zone)
 
-  pub count-there : z * tally < length (t .derived .tallies)
-  count-there = omega (arith, h .size .lengths .tallies, h .zone)
-
   -- with the shape as it was read
   module _ {s : Shape} (shape : s ≡ shapeOf t) where
     pub cut-room : AllRoom s r

@@ -1,10 +1,11 @@
 -- `count_of_zone` answers the stored number, past the refusals.
-use mathlib.Core.Path.{_≡_, refl, sym, _∙_}
-use Rattle.model.specs.Model.{askCount, meaning}
+use mathlib.Core.Path.{refl, sym, _∙_}
+use Rattle.model.specs.Model.{meaning}
 use Rattle.tables.specs.Tables.{Tables, tables}
-use Rattle.promises.specs.Promise.{bars}
+use Rattle.tables.specs.TallyLaws.{count-in}
 use Rattle.promises.specs.PromiseLaws.{keeps-refused}
-use Rattle.readings.specs.ReadLaws.{Counted, counted, count-there, count-kept}
+use Rattle.promises.specs.StandingLaws.{There, zone-there}
+use Rattle.readings.specs.ReadLaws.{count-kept}
 use borrow.Author.Needs.{needs}
 use Rattle.readings.proofs.count.count_of_zone.Statement.{statement}
 use Rattle.readings.proofs.count.count_of_zone.Tie as tie
@@ -19,13 +20,8 @@ whole c = tables (c .args .head .now) (c .args .zones .now) (c .args .cars .now)
 
 -- ---- what is known there
 
--- a count is refused as every call on a standing zone is
-number : (c : tie.After-refuse-zone) → c .refuse-zone .result ≡ bars (whole (start c)) (askCount (start c .args .zone))
-unfolding meaning
-number c = c .refuse-zone .ensures
-
-ok : (c : tie.Else1) → Counted (whole (start (c .before))) (start (c .before) .args .zone)
-ok c = counted _ _ (sym (number (c .before)) ∙ c .if1 .left)
+ok : (c : tie.Else1) → There (whole (start (c .before))) (start (c .before) .args .zone)
+ok c = zone-there _ _ (sym (c .before .refuse-zone .ensures) ∙ c .if1 .left)
 
 -- ---- needs
 
@@ -34,10 +30,10 @@ refuse-zone-requires c κs = search needs
 
 returns : tie.Need-returns
 unfolding meaning
-returns c = keeps-refused _ _ _ _ (c .if1 .taken) (number (c .before)) refl
+returns c = keeps-refused _ _ _ _ (c .if1 .taken) (c .before .refuse-zone .ensures) refl
 
 count-in-requires : tie.Need-count-in-requires
-count-in-requires c κs = count-there (ok c)
+count-in-requires c κs = count-in _ (ok c .size) _ (ok c .zone)
 
 returns-2 : tie.Need-returns-2
 returns-2 c = rw (c .count-in .ensures) (count-kept (ok (c .before)))

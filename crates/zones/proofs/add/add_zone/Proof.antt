@@ -4,9 +4,10 @@ use mathlib.Core.Path.{_≡_, refl, sym, _∙_}
 use native.Mathlib.Omega.{arith}
 use lib.ListN.{length, getD}
 use Rattle.tables.specs.Tables.{Tables, tables}
+use Rattle.tables.specs.TallyLaws.{count-in}
 use Rattle.model.specs.Model.{meaning}
 use Rattle.promises.specs.PromiseLaws.{keeps-refused}
-use Rattle.zones.specs.AddLaws.{New, new-zone, record-there, cut-room, keys-there, row-there, count-there, inside-few, add-full, add-kept}
+use Rattle.zones.specs.AddLaws.{New, new-zone, record-there, cut-room, keys-there, row-there, inside-few, add-full, add-kept}
 use borrow.Author.Needs.{needs}
 use Rattle.zones.proofs.add.add_zone.Statement.{statement}
 use Rattle.zones.proofs.add.add_zone.Tie as tie
@@ -145,7 +146,7 @@ cast-write-count c =
     omega (arith, inside-few (new (passed at)) (at .shape-in .ensures) (park .car-room .ensures) (filled .fill-row .ensures))
 
 write-count-requires : tie.Need-write-count-requires
-write-count-requires c κs = let park = parked (zoned (keyed (c .before .before .before))) in count-there (new (passed (shaped (read (counted (roomed park))))))
+write-count-requires c κs = let park = parked (zoned (keyed (c .before .before .before))) in let k = new (passed (shaped (read (counted (roomed park))))) in count-in _ (k .size) _ (k .zone)
 
 same-length-11 : tie.Need-same-length-11
 same-length-11 c = search needs

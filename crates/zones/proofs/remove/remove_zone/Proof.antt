@@ -4,7 +4,9 @@ use native.Mathlib.Omega.{arith}
 use Rattle.tables.specs.Tables.{Tables, tables}
 use Rattle.model.specs.Model.{meaning}
 use Rattle.promises.specs.PromiseLaws.{keeps-refused}
-use Rattle.zones.specs.RemoveLaws.{There, zone-there, record-there, row-there, count-there, remove-kept}
+use Rattle.tables.specs.TallyLaws.{count-in}
+use Rattle.promises.specs.StandingLaws.{There, zone-there}
+use Rattle.zones.specs.RemoveLaws.{record-there, row-there, remove-kept}
 use borrow.Author.Needs.{needs}
 use Rattle.zones.proofs.remove.remove_zone.Statement.{statement}
 use Rattle.zones.proofs.remove.remove_zone.Tie as tie
@@ -74,7 +76,7 @@ clear-row-requires : tie.Need-clear-row-requires
 clear-row-requires c κs = let park = parked (zoned (c .before .before .before .before .before)) in rw (park .car-room .ensures) (row-there (there (passed park)))
 
 write-count-requires : tie.Need-write-count-requires
-write-count-requires c κs = let park = parked (zoned (dropped (c .before .before .before))) in count-there (there (passed park))
+write-count-requires c κs = let park = parked (zoned (dropped (c .before .before .before))) in let k = there (passed park) in omega (arith, count-in _ (k .size) _ (k .zone))
 
 same-length-6 : tie.Need-same-length-6
 same-length-6 c = search needs
