@@ -40,9 +40,10 @@
  * all the same: they are kept and given as they stand.
  *
  * Cells. The town has W = P * 2^k columns, counted from 0 from the west, and H = Q * 2^k rows, counted from 0 from the
- * south. The cell of a position is the floor of x and of y: column floor(x), row floor(y). So x = 10.75 is column 10, and
- * x = 11 is column 11. A position is on the map where 0 <= x < W and 0 <= y < H. So -0.0f is on the map, in cell 0, and is
- * stored with its sign; no other number with the sign bit set is, nor an infinity or a NaN.
+ * south. A position is on the map where 0 <= x <= W and 0 <= y <= H. Its cell is the floor of x and of y: column floor(x),
+ * row floor(y). So x = 10.75 is column 10, and x = 11 is column 11. Exactly at the outer wall it is the last one: x = W is
+ * column W - 1, y = H is row H - 1; the next float above is off the map. -0.0f is on the map, in cell 0. No other number
+ * with the sign bit set is, nor an infinity or a NaN. A position is stored as it came, with the sign of -0.0f, at W as W.
  *
  * Squares. The town is P blocks from west to east times Q from south to north, each of L by L cells, L = 2^k. Level i, for
  * 0 <= i <= k, splits each block into 4^i squares of side L / 2^i: level 0 is the block, level k the cells. The square of
@@ -163,10 +164,10 @@ uint32_t unwadegiro_remove(const uint32_t *head, size_t head_len, uint32_t *zone
                            uint8_t *rosters, size_t rosters_len, uint32_t *tallies, size_t tallies_len, uint32_t zone);
 
 /*
- * Places a car on the map, or moves it. A position is on the map where 0 <= x < W and 0 <= y < H, -0.0f too;
- * its cell is column floor(x), row floor(y). `entered` gets the zones that hold the new cell and not the old, `left`
- * those that hold the old and not the new; each must have room for as many zones as the zone capacity. A car that was off
- * the map enters all that hold the new cell.
+ * Places a car on the map, or moves it. A position is on the map where 0 <= x <= W and 0 <= y <= H, -0.0f too;
+ * its cell is column floor(x), row floor(y), and at x = W or y = H the last one. `entered` gets the zones that hold the
+ * new cell and not the old, `left` those that hold the old and not the new; each must have room for as many zones as the
+ * zone capacity. A car that was off the map enters all that hold the new cell.
  * Values, 3: squares looked into (0 where the cell stays the same); how many zones are in `entered`; how many in `left`.
  * Refusals: 3, 5, 10, 11.
  */

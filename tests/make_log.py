@@ -58,6 +58,10 @@ def just_below(value):
     return hexed(bits_of(value) - 1)
 
 
+def just_above(value):
+    return hexed(bits_of(value) + 1)
+
+
 def in_cell(cell):
     """A coordinate in the cell: at its start, somewhere in it, or the last float before the next cell. Minus zero is at 0."""
     way = dice.below(4)
@@ -66,6 +70,11 @@ def in_cell(cell):
     if way == 1:
         return just_below(cell + 1)
     return at(cell + dice.below(1024) / 1024)
+
+
+def along(cell, side):
+    """A coordinate in the cell; in the last one of the side often at its end."""
+    return at(side) if cell == side - 1 and dice.below(2) else in_cell(cell)
 
 
 # ---- lines that get 14
@@ -202,12 +211,12 @@ def worst_first():
     put("M", 2, 3, 2)
     put("A", 3, 2, 1, 6, 5)
     put("P", 9, at(3), at(3))
-    off, nan = at(12), "7FC00000"
+    off, nan = just_above(12), "7FC00000"
     for record in [
         ("A", 16, 0, 0, 0, 0), ("A", 16, 0, 0, 1, 1), ("A", 17, HIGH, HIGH, HIGH, HIGH), ("A", HIGH, 0, 0, 1, 1),
         ("A", 3, 0, 0, 0, 1), ("A", 3, HIGH, 0, 1, 1), ("A", 3, 0, 0, 1, 1), ("D", 16), ("D", HIGH), ("D", 2),
         ("R", 16), ("R", HIGH), ("R", 2), ("P", 64, nan, nan), ("P", 64, off, at(1)), ("P", 64, at(1), at(1)),
-        ("P", HIGH, nan, at(1)), ("P", 9, nan, nan), ("P", 9, off, at(1)), ("P", 9, at(1), at(8)), ("P", 8, off, off),
+        ("P", HIGH, nan, at(1)), ("P", 9, nan, nan), ("P", 9, off, at(1)), ("P", 9, at(1), just_above(8)), ("P", 8, off, off),
         ("L", 64), ("L", HIGH), ("L", 8), ("S", nan, off), ("S", off, at(1)), ("S", at(1), off),
     ]:
         put(*record)
@@ -263,6 +272,34 @@ def coordinates_at_the_edge():
             put("S", hexed(bits), hexed(bits))
             if index % 5 == 0:
                 put("R", index % 3)
+
+
+def outer_walls():
+    """Cars at W and at H exactly, the float before and the float after, with zones that end at the walls or a cell before
+    them, laid before the cars come and over cars that stand there."""
+    for k, P, Q in (2, 3, 2), (0, 1, 1), (0, 5, 3), (1, 3, 7), (3, 8, 8), (5, 2, 1):
+        W, H = P * 2**k, Q * 2**k
+        put("M", k, P, Q)
+        ends = [(0, 0, W, H), (W - 1, 0, 1, H), (0, H - 1, W, 1), (0, 0, W - 1, H), (0, 0, W, H - 1)]
+        for zone, r in enumerate(ends):
+            put("A", zone, *r)
+        for turn in range(6):
+            car, x, y = turn % 4, in_cell(dice.below(W)), in_cell(dice.below(H))
+            for east in at(W), just_below(W), at(W), just_above(W), at(H):
+                put("P", car, east, y)
+            for north in at(H), just_below(H), at(H), just_above(H), at(W):
+                put("P", car, x, north)
+            put("P", car, at(W), at(H))
+            put("S", at(W), y)
+            put("S", x, at(H))
+            put("R", turn % 5)
+        put("P", 0, at(W), y)
+        put("P", 1, x, at(H))
+        for zone, r in enumerate(ends):
+            put("A", 5 + zone, *r)
+            put("R", 5 + zone)
+        for car in range(5):
+            put("L", car)
 
 
 # ---- room
@@ -376,7 +413,7 @@ class Play:
 
     def send(self, car, x, y):
         self.cars[car] = (x, y)
-        put("P", car, in_cell(x), in_cell(y))
+        put("P", car, along(x, self.W), along(y, self.H))
 
     def placed(self):
         return dice.pick(sorted(self.cars)) if self.cars else self.fresh()
@@ -404,9 +441,9 @@ class Play:
         self.send(car, x % self.L + self.L * column, y % self.L + self.L * row)
 
     def wall(self):
-        """Off the map, or at its last float, on one axis or both."""
+        """Off the map, or at the end of a side, the other one's too, on one axis or both."""
         over = ["80000001", "BF800000", "FF800000", "7F800000", "7FC00000"]
-        over += [at(self.W), at(self.H), hexed(bits_of(self.W) + 1)]
+        over += [at(self.W), at(self.H), just_above(self.W), just_above(self.H)]
         x, y = in_cell(dice.below(self.W)), in_cell(dice.below(self.H))
         way = dice.below(3)
         if way != 1:
@@ -416,11 +453,11 @@ class Play:
         put(*dice.pick([("P", self.placed()), ("S",)]), x, y)
 
     def search(self):
-        put("S", in_cell(dice.below(self.W)), in_cell(dice.below(self.H)))
+        put("S", along(dice.below(self.W), self.W), along(dice.below(self.H), self.H))
 
     def search_car(self):
         x, y = self.cars[self.placed()]
-        put("S", in_cell(x), in_cell(y))
+        put("S", along(x, self.W), along(y, self.H))
 
     def roster(self):
         put("R", dice.below(ALL_ZONES + 1))
@@ -498,6 +535,7 @@ def main():
     worst_first()
     rectangles_at_the_edge()
     coordinates_at_the_edge()
+    outer_walls()
     refused_maps()
     malformed_lines()
     full_zones()

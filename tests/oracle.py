@@ -109,11 +109,16 @@ def cut_size(shape, r):
 
 
 def cell_along(bits, end):
-    """The cell of one coordinate, or None where it is no number, below 0, or not below the end. Minus zero is 0."""
+    """The cell of one coordinate, or None where it is no number, below 0, or above the end. Minus zero is 0.
+
+    Exactly at the end it is the last cell.
+    """
     value = struct.unpack(">f", struct.pack(">I", bits))[0]
     if not isfinite(value):
         return None
     exact = Fraction(value)
+    if exact == end:
+        return end - 1
     return floor(exact) if 0 <= exact < end else None
 
 

@@ -3,7 +3,9 @@
 use crate::raw;
 use crate::{Rectangle, Refusal, Shape};
 
-/// A car's position: two 32-bit floats, kept as they came.
+/// A car's position: two 32-bit floats, kept as they came. On a town of W columns and H rows it is on the map where
+/// `0 <= x <= W` and `0 <= y <= H`, minus zero too. Its cell is column floor(x) and row floor(y), and at the outer walls, where
+/// x is W or y is H, the last one.
 #[derive(Clone, Copy, Debug, PartialEq)]
 pub struct Position {
     pub x: f32,
@@ -258,7 +260,7 @@ impl Town {
     /// town.add(0, Rectangle { a: 8, b: 8, w: 1, h: 1 })?;
     /// assert_eq!(town.report(1, Position { x: 8.0, y: 8.0 })?.entered, [0]);
     /// assert_eq!(town.report(1, Position { x: 9.0, y: 8.0 })?.left, [0]);
-    /// assert_eq!(town.report(1, Position { x: 16.0, y: 8.0 }), Err(Refusal::PositionOffMap));
+    /// assert_eq!(town.report(1, Position { x: 16.5, y: 8.0 }), Err(Refusal::PositionOffMap));
     /// # Ok::<(), Refusal>(())
     /// ```
     pub fn report(&mut self, car: u32, at: Position) -> Result<Reported<'_>, Refusal> {

@@ -78,7 +78,7 @@ fn head_counts() {
     assert_eq!([0, 1].map(|zone| town.count(zone)), [Ok(3), Ok(3)]);
     town.report(3, at(9.0, 9.0)).unwrap();
     assert_eq!([0, 1].map(|zone| town.count(zone)), [Ok(2), Ok(2)]);
-    assert_eq!(town.report(4, at(16.0, 0.0)), Err(Refusal::PositionOffMap));
+    assert_eq!(town.report(4, at(16.5, 0.0)), Err(Refusal::PositionOffMap));
     assert_eq!([0, 1].map(|zone| town.count(zone)), [Ok(2), Ok(2)]);
     town.leave(4).unwrap();
     assert_eq!([0, 1].map(|zone| town.count(zone)), [Ok(2), Ok(1)]);
@@ -115,7 +115,8 @@ fn positions_at_the_edge() {
     assert_eq!(zones(&mut town, 0x00000001), Ok(vec![0]));
     assert_eq!(zones(&mut town, 0x3F800000), Ok(vec![]));
     assert_eq!(zones(&mut town, 0x437FFFFF), Ok(vec![15]));
-    assert_eq!(zones(&mut town, 0x43800000), Err(Refusal::PositionOffMap));
+    assert_eq!(zones(&mut town, 0x43800000), Ok(vec![15]));
+    assert_eq!(zones(&mut town, 0x43800001), Err(Refusal::PositionOffMap));
 }
 
 #[test]
@@ -169,4 +170,35 @@ fn west_wall() {
     assert_eq!(town.roster(1).unwrap(), [4]);
     assert!(town.is_sound());
     assert_eq!(town.leave(4).unwrap().left, [0, 1]);
+}
+
+#[test]
+fn east_wall() {
+    // 12 columns, no power of two, and 8 rows
+    let mut town = Town::open(Shape { k: 2, p: 3, q: 2 }, ROOM).unwrap();
+    let next = |wall: f32| f32::from_bits(wall.to_bits() + 1);
+    town.add(0, rectangle(11, 0, 1, 8)).unwrap();
+    town.add(1, rectangle(0, 0, 11, 8)).unwrap();
+    town.report(4, at(10.0, 3.0)).unwrap();
+    let reported = town.report(4, at(12.0, 3.0)).unwrap();
+    assert_eq!((reported.squares, reported.entered, reported.left), (2, &[0][..], &[1][..]));
+    assert_eq!(town.where_is(4).unwrap().x.to_bits(), 0x4140_0000);
+    assert_eq!(town.report(4, at(11.5, 3.0)).unwrap().squares, 0);
+    assert_eq!(town.report(4, at(12.0, 3.0)).unwrap().squares, 0);
+    // W for y is past H, and the other way round it is within
+    for (x, y) in [(next(12.0), 3.0), (3.0, next(8.0)), (3.0, 12.0), (16.0, 3.0), (f32::INFINITY, 3.0)] {
+        assert_eq!(town.report(4, at(x, y)), Err(Refusal::PositionOffMap));
+        assert_eq!(town.search(at(x, y)), Err(Refusal::PositionOffMap));
+    }
+    assert_eq!(town.search(at(8.0, 8.0)).unwrap().zones, [1]);
+    assert_eq!(town.search(at(12.0, 8.0)).unwrap().zones, [0]);
+    // a zone that ends at the walls has the car in their corner, one that ends a cell before them has not
+    town.report(4, at(12.0, 8.0)).unwrap();
+    assert_eq!(town.add(2, rectangle(8, 4, 4, 4)).unwrap().cars, 1);
+    assert_eq!(town.add(3, rectangle(8, 4, 3, 4)).unwrap().cars, 0);
+    assert_eq!(town.add(5, rectangle(8, 4, 4, 3)).unwrap().cars, 0);
+    assert_eq!(town.roster(2).unwrap(), [4]);
+    assert_eq!(town.count(0).unwrap(), 1);
+    assert!(town.is_sound());
+    assert_eq!(town.leave(4).unwrap().left, [0, 2]);
 }

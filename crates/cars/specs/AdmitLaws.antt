@@ -47,7 +47,6 @@ module _ (t : Tables) (c : ℕ) (p : Position) (e l : List ℕ) where
             none = none;
             size = sized→ t (h .0);
             car = ltb-true c (carRoom t) (h .1 .0);
-            town = h .1 .1 .0;
             column = cc;
             row = cc;
             room-in = leb-true (zoneRoom t) (length e) (h .1 .1 .1 .0);

@@ -1,11 +1,10 @@
 -- What a report is admitted as: refused by its number, or on its way to its cell.
 use Prim.Native.Nat.{ℕ, zero, suc, _<_, _≤_}
 use mathlib.Core.Path.{_≡_}
-use mathlib.Core.Bool.{true}
 use mathlib.Core.List.{List}
 use lib.ListN.{length}
 use Rattle.position.specs.declared.Position.{Position}
-use Rattle.position.specs.Answer.{onTown, columnOf, rowOf}
+use Rattle.position.specs.Answer.{columnOf, rowOf}
 use Rattle.model.specs.Model.{reporting}
 use Rattle.tables.specs.Tables.{Tables, shapeOf, zoneRoom, carRoom}
 use Rattle.tables.specs.Sizes.{Sized}
@@ -25,7 +24,6 @@ pub record Reportable (t : Tables) (c : ℕ) (p : Position) (x y : ℕ) (e l : L
   pub none : bars t (reporting c p e l) ≡ 0
   pub size : Sized t
   pub car : c < carRoom t
-  pub town : onTown (shapeOf t) p ≡ true
   pub column : columnOf (shapeOf t) p ≡ x
   pub row : rowOf (shapeOf t) p ≡ y
   pub room-in : zoneRoom t ≤ length e

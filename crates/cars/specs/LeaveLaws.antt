@@ -67,7 +67,7 @@ module _ {t : Tables} {c : ℕ} {b : List ℕ} (ok : Leavable t c b) {s : Shape}
     stood = spot-on t (spotOf t c) (ok .size) shape where-is x y e
 
     pub leave-asks : OnMap s x y × (length (t .derived .starts) ≡ squares s + 1)
-    leave-asks = rw (shape, ← stood .1, ← stood .2) (look-asks t (spotOf t c) (ok .size) (stood .0))
+    leave-asks = rw (shape, ← stood .1, ← stood .2) (look-asks t (spotOf t c) (ok .size))
 
     module _ {b′ : List ℕ} {r : Looked} (h : Looks s x y (t .derived .starts) (t .derived .entries) b b′ r) where
       found : Sound t → Front b b′ (r .zones) (zonesOf (townOf t) c)
@@ -75,7 +75,7 @@ module _ {t : Tables} {c : ℕ} {b : List ℕ} (ok : Leavable t c b) {s : Shape}
       found sound =
           let old = spotOf t c in
           let k = rw (shape, ← stood .1, ← stood .2) at h in
-          rw (car-in t c (ok .on-map)) (front-is (k .found) (looked-holds sound (columnOf (shapeOf t) old) (rowOf (shapeOf t) old) (column-below (shapeOf t) old (stood .0)) (row-below (shapeOf t) old (stood .0)) (length b) (ok .enough)))
+          rw (car-in t c (ok .on-map)) (front-is (k .found) (looked-holds sound (columnOf (shapeOf t) old) (rowOf (shapeOf t) old) (column-below (shapeOf t) old (ok .size .shape)) (row-below (shapeOf t) old (ok .size .shape)) (length b) (ok .enough)))
 
       module _ {cars′ rosters′ tallies′ : List ℕ} {many : ℕ} (room : many ≡ carRoom t) (car : cars′ ≡ set (t .records .cars) c 0) (gone : rosters′ ≡ stamped (t .derived .rosters) (take (r .zones) b′) many c 0) (fewer : tallies′ ≡ moved (t .derived .tallies) (take (r .zones) b′) 4294967295) where
         abbrev after : Tables

@@ -40,11 +40,11 @@ module _ {t : Tables} {c : ℕ} {p : Position} {x y : ℕ} {e l : List ℕ} (ok 
 
   module _ {s : Shape} (shape : s ≡ shapeOf t) where
     pub see-asks : OnMap s x y × ((length (t .derived .starts) ≡ squares s + 1) × ((c < length (t .records .cars)) × (2 * c + 2 ≤ length (t .records .spots))))
-    see-asks = let at = look-asks t p (ok .size) (ok .town) in rw (shape, ← ok .column, ← ok .row) (at .0, (at .1, (car-there, spot-there)))
+    see-asks = let at = look-asks t p (ok .size) in rw (shape, ← ok .column, ← ok .row) (at .0, (at .1, (car-there, spot-there)))
 
     module _ {e′ l′ : List ℕ} {r : Crossed} (h : Sees s (t .records .zones) (t .records .cars) (t .records .spots) (t .derived .starts) (t .derived .entries) c x y e e′ l l′ r) where
       moves : Sound t → Moves t c p e e′ l l′ r
-      moves sound = sees-sound sound c p (ok .town) e l (ok .room-in) (ok .room-out) (rw (shape, ← ok .column, ← ok .row) at h)
+      moves sound = sees-sound sound c p e l (ok .room-in) (ok .room-out) (rw (shape, ← ok .column, ← ok .row) at h)
 
       module _ {cars′ rosters′ rosters″ tallies′ tallies″ : List ℕ} {spots′ : List Float} {many : ℕ} (room : many ≡ carRoom t) (came : rosters′ ≡ stamped (t .derived .rosters) (take (r .entered) e′) many c 1) (gone : rosters″ ≡ stamped rosters′ (take (r .left) l′) many c 0) (more : tallies′ ≡ moved (t .derived .tallies) (take (r .entered) e′) 1) (fewer : tallies″ ≡ moved tallies′ (take (r .left) l′) 4294967295) (spot : spots′ ≡ withSpot (t .records .spots) c p) (car : cars′ ≡ set (t .records .cars) c 1) where
         abbrev after : Tables

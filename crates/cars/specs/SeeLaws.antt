@@ -25,6 +25,7 @@ use Rattle.position.specs.Spots.{spotOn}
 use Rattle.position.specs.Laws.{column-below, row-below, off-town, on-town}
 use Rattle.model.specs.Model.{zonesAt, zonesEntered, zonesLeft, looked}
 use Rattle.tables.specs.Tables.{Tables, shapeOf, zoneRoom, placedIn, placed, spotIn, spotOf, carIn, townOf, zoneHolds}
+use Rattle.tables.specs.CheckLaws.{sized→}
 use Rattle.tables.specs.Sound.{Sound}
 use Rattle.tables.specs.RecordLaws.{car-in, car-out}
 use Rattle.lookup.specs.declared.looks.Crossed.{Crossed}
@@ -44,7 +45,7 @@ module _ {s : Shape} {spot : Spot} {q old : Position} (shape : Allowed s) (store
   was-on {x} {y} e = on-town s old x y (→allowed s shape) (was ∙ e)
 
   pub old-map : {x y : ℕ} → spot ≡ Spot.Cell x y → OnMap s x y
-  old-map e = let h = was-on e in rw (← h .1, ← h .2) (record { shape = shape; column = column-below s old (h .0); row = row-below s old (h .0) })
+  old-map e = let h = was-on e in rw (← h .1, ← h .2) (record { shape = shape; column = column-below s old shape; row = row-below s old shape })
 
 -- ---- how it is seen
 
@@ -79,9 +80,12 @@ pub record Moves (t : Tables) (c : ℕ) (p : Position) (e e′ l l′ : List ℕ
 pub front-is : {b b′ l m : List ℕ} {n : ℕ} → Front b b′ n l → l ≡ m → Front b b′ n m
 front-is {b} {b′} {n = n} f e = subst (λ (k : List ℕ). Front b b′ n k) e f
 
-module _ {t : Tables} (sound : Sound t) (c : ℕ) (p : Position) (town : onTown (shapeOf t) p ≡ true) (e l : List ℕ) (room-in : zoneRoom t ≤ length e) (room-out : zoneRoom t ≤ length l) where
+module _ {t : Tables} (sound : Sound t) (c : ℕ) (p : Position) (e l : List ℕ) (room-in : zoneRoom t ≤ length e) (room-out : zoneRoom t ≤ length l) where
   abbrev s : Shape
   s = shapeOf t
+
+  within : Allowed s
+  within = sized→ t (sound .size) .shape
 
   -- off the map a car enters the zones that hold the cell, and leaves none
   module _ (off : placed t c ≡ false) where
@@ -95,7 +99,7 @@ module _ {t : Tables} (sound : Sound t) (c : ℕ) (p : Position) (town : onTown 
     unfolding zoneHolds
     sees-new h same = record {
       looks = rw (car-out t c off) (h .squares);
-      came = front-is (h .entered) (looked-holds sound (columnOf s p) (rowOf s p) (column-below s p town) (row-below s p town) (length e) room-in ∙ all-entered);
+      came = front-is (h .entered) (looked-holds sound (columnOf s p) (rowOf s p) (column-below s p within) (row-below s p within) (length e) room-in ∙ all-entered);
       gone = rw (h .left, same) (front-is (front-none l) none-left);
     }
 
@@ -103,12 +107,11 @@ module _ {t : Tables} (sound : Sound t) (c : ℕ) (p : Position) (town : onTown 
   unfolding zoneHolds
   sees-moved on h =
       let q = spotOf t c in
-      let stood = sound .cars c on in
       let alike : (i : ℕ) → i ≤ s .k → h .levels ≤ s .k - i → number s i (columnOf s q) (rowOf s q) ≡ number s i (columnOf s p) (rowOf s p) = λ (i : ℕ) (g : i ≤ s .k) (u : h .levels ≤ s .k - i). eqb-true _ _ (not-false _ (h .apart .above i g u)) in
       record {
         looks = rw (car-in t c on) (h .squares ∙ ap (λ (n : ℕ). 2 * n) (sym (differ-count (h .apart))));
-        came = rw (car-in t c on) (front-is (h .entered) (looked-apart sound (columnOf s p) (rowOf s p) (column-below s p town) (row-below s p town) (length e) room-in (columnOf s q) (rowOf s q) (h .levels) (column-below s q stood) (row-below s q stood) (λ i g u. sym (alike i g u)) (h .apart .few)));
-        gone = rw (car-in t c on) (front-is (h .left) (looked-apart sound (columnOf s q) (rowOf s q) (column-below s q stood) (row-below s q stood) (length l) room-out (columnOf s p) (rowOf s p) (h .levels) (column-below s p town) (row-below s p town) alike (h .apart .few)));
+        came = rw (car-in t c on) (front-is (h .entered) (looked-apart sound (columnOf s p) (rowOf s p) (column-below s p within) (row-below s p within) (length e) room-in (columnOf s q) (rowOf s q) (h .levels) (column-below s q within) (row-below s q within) (λ i g u. sym (alike i g u)) (h .apart .few)));
+        gone = rw (car-in t c on) (front-is (h .left) (looked-apart sound (columnOf s q) (rowOf s q) (column-below s q within) (row-below s q within) (length l) room-out (columnOf s p) (rowOf s p) (h .levels) (column-below s p within) (row-below s p within) alike (h .apart .few)));
       }
 
   pub sees-sound : {e′ l′ : List ℕ} {r : Crossed} → Sees s (t .records .zones) (t .records .cars) (t .records .spots) (t .derived .starts) (t .derived .entries) c (columnOf s p) (rowOf s p) e e′ l l′ r → Moves t c p e e′ l l′ r

@@ -254,7 +254,7 @@ fn odd_floats() {
     cell_of(0x7F7F_FFFF);
 }
 
-// The float just below each power of two up to 256, and the power.
+// The float just below each power of two up to 256, and the power; then the next above the side.
 fn near_powers() {
     cell_of(0x3F7F_FFFF);
     cell_of(0x3F80_0000);
@@ -274,6 +274,7 @@ fn near_powers() {
     cell_of(0x4300_0000);
     cell_of(0x437F_FFFF);
     cell_of(0x4380_0000);
+    cell_of(0x4380_0001);
 }
 
 fn spots(town: Shape) {
@@ -281,9 +282,25 @@ fn spots(town: Shape) {
     spot_of(town, 0x4120_0000, 0x4130_0000);
     spot_of(town, 0x417F_FFFF, 0x0000_0000);
     spot_of(town, 0x4180_0000, 0x0000_0000);
+    spot_of(town, 0x4180_0001, 0x0000_0000);
     spot_of(town, 0x0000_0000, 0x4180_0000);
+    spot_of(town, 0x0000_0000, 0x4180_0001);
     spot_of(town, 0x0000_0000, 0x7FC0_0000);
     spot_of(Shape { k: 6, P: 1, Q: 1 }, 0x0000_0000, 0x0000_0000);
+}
+
+// A town of 12 by 8: about the east wall, about the north wall, their corner, and each wall for the other side.
+fn walls(town: Shape) {
+    spot_of(town, 0x413F_FFFF, 0x0000_0000);
+    spot_of(town, 0x4140_0000, 0x0000_0000);
+    spot_of(town, 0x4140_0001, 0x0000_0000);
+    spot_of(town, 0x8000_0000, 0x40FF_FFFF);
+    spot_of(town, 0x8000_0000, 0x4100_0000);
+    spot_of(town, 0x8000_0000, 0x4100_0001);
+    spot_of(town, 0x4140_0000, 0x4100_0000);
+    spot_of(town, 0x4100_0000, 0x4100_0000);
+    spot_of(town, 0x4100_0000, 0x4140_0000);
+    spot_of(town, 0xC140_0000, 0x0000_0000);
 }
 
 fn main() {
@@ -294,6 +311,7 @@ fn main() {
     odd_floats();
     near_powers();
     spots(town);
+    walls(Shape { k: 2, P: 3, Q: 2 });
     small::small_town();
     whole::whole_case(town);
 }

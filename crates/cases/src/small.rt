@@ -282,6 +282,8 @@ fn reads() {
     search(0x3F00_0000, 0x0000_0000, &mut out);
     search(0x3F00_0000, 0x3F80_0000, &mut out);
     search(0x4000_0000, 0x0000_0000, &mut out);
+    search(0x4000_0001, 0x0000_0000, &mut out);
+    search(0x0000_0000, 0x4000_0000, &mut out);
     search(0x8000_0000, 0x0000_0000, &mut out);
     roster(1, &mut out);
     roster(0, &mut out);
@@ -313,6 +315,14 @@ fn records() {
     lost.spots[0] = float_of(0x7FC0_0000);
     text(b"position not on the map");
     soundness(lost);
+    let mut pressed = standing();
+    pressed.spots[0] = float_of(0x4000_0000);
+    text(b"car at the east wall");
+    soundness(pressed);
+    let mut past = standing();
+    past.spots[0] = float_of(0x4000_0001);
+    text(b"car past the east wall");
+    soundness(past);
     let mut moved = standing();
     moved.spots[1] = float_of(0x3FC0_0000);
     text(b"car elsewhere");

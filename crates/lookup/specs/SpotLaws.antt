@@ -30,5 +30,5 @@ module _ (t : Tables) (p : Position) (size : Sized t) {s : Shape} {spot : Spot} 
   spot-on x y e = on-town (shapeOf t) p x y within (spot-is ∙ e)
 
 -- what looking into the squares of a position's cell asks
-pub look-asks : (t : Tables) (p : Position) → Sized t → onTown (shapeOf t) p ≡ true → OnMap (shapeOf t) (columnOf (shapeOf t) p) (rowOf (shapeOf t) p) × (length (t .derived .starts) ≡ squares (shapeOf t) + 1)
-look-asks t p size on = (record { shape = size .shape; column = column-below (shapeOf t) p on; row = row-below (shapeOf t) p on }, size .lengths .starts)
+pub look-asks : (t : Tables) (p : Position) → Sized t → OnMap (shapeOf t) (columnOf (shapeOf t) p) (rowOf (shapeOf t) p) × (length (t .derived .starts) ≡ squares (shapeOf t) + 1)
+look-asks t p size = (record { shape = size .shape; column = column-below (shapeOf t) p (size .shape); row = row-below (shapeOf t) p (size .shape) }, size .lengths .starts)

@@ -20,8 +20,8 @@ unfolding spotOn onTown columnOf rowOf coordinateOn
 by-pair s p e = rw e (go (onMap (width s) (p .x)) (onMap (height s) (p .y)))
   where
     go : (a b : Bool)
-        → cond (a && b) (Spot.Cell (cellOf (p .x)) (cellOf (p .y))) Spot.Off
-        ≡ pair (cond a (Coordinate.Cell (cellOf (p .x))) Coordinate.Off) (cond b (Coordinate.Cell (cellOf (p .y))) Coordinate.Off)
+        → cond (a && b) (Spot.Cell (cellOf (width s) (p .x)) (cellOf (height s) (p .y))) Spot.Off
+        ≡ pair (cond a (Coordinate.Cell (cellOf (width s) (p .x))) Coordinate.Off) (cond b (Coordinate.Cell (cellOf (height s) (p .y))) Coordinate.Off)
     go true true = refl
     go true false = refl
     go false b = refl

@@ -12,7 +12,7 @@ onTown s p = onMap (width s) (p .x) && onMap (height s) (p .y)
 
 -- its column and its row there
 unfoldable pub columnOf : Shape → Position → ℕ
-columnOf s p = cellOf (p .x)
+columnOf s p = cellOf (width s) (p .x)
 
 unfoldable pub rowOf : Shape → Position → ℕ
-rowOf s p = cellOf (p .y)
+rowOf s p = cellOf (height s) (p .y)

@@ -1,7 +1,7 @@
--- A coordinate's cell, and whether it is on the map (document 01, "Positions"). Definitions only.
-use Prim.Native.Nat.{ℕ, _+_, _-_, _*_, _/_, _%_, _^_}
+-- Whether a coordinate is on the map, and its cell on a side (document 01, "Positions"). Definitions only.
+use Prim.Native.Nat.{ℕ, _+_, _-_, _*_, _/_, _%_, _^_, min}
 use mathlib.Core.Bool.{Bool, not, _&&_, _||_, cond}
-use lib.Dec.{ltb, eqb}
+use lib.Dec.{ltb, leb, eqb}
 use lib.Ieee.{Float, binary32, toBits, isNan}
 
 -- the exponent field e and the fraction field f of a float's bits
@@ -15,14 +15,14 @@ fraction bits = bits % 2 ^ 23
 unfoldable pub whole : ℕ → ℕ
 whole bits = cond (eqb (exponent bits) 0) (fraction bits) ((2 ^ 23 + fraction bits) * 2 ^ (exponent bits - 1))
 
--- bits of no infinity and no NaN, with a value of at least 0 (the sign bit is clear, or n is 0) and below the side
+-- bits of no infinity and no NaN, with a value of at least 0 (the sign bit is clear, or n is 0) and at most the side
 unfoldable pub inRange : ℕ → ℕ → Bool
-inRange side bits = ltb (exponent bits) 255 && (ltb bits (2 ^ 31) || eqb (whole bits) 0) && ltb (whole bits) (side * 2 ^ 149)
+inRange side bits = ltb (exponent bits) 255 && (ltb bits (2 ^ 31) || eqb (whole bits) 0) && leb (whole bits) (side * 2 ^ 149)
 
 -- a coordinate is on the map, on a side. lib.Ieee has one NaN, with no bits of its own, so it is named apart
 unfoldable pub onMap : ℕ → Float → Bool
 onMap side x = not (isNan x) && inRange side (toBits binary32 x)
 
--- the greatest whole number not above the value
-unfoldable pub cellOf : Float → ℕ
-cellOf x = whole (toBits binary32 x) / 2 ^ 149
+-- the greatest whole number not above the value, or the side's last cell, whichever is smaller
+unfoldable pub cellOf : ℕ → Float → ℕ
+cellOf side x = min (whole (toBits binary32 x) / 2 ^ 149) (side - 1)

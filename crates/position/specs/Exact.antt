@@ -1,15 +1,15 @@
--- n / 2 ^ 149 is the exact value that lib.Ieee gives a float: so a cell is the floor of a real number, and the map's end a comparison of real numbers.
+-- n / 2 ^ 149 is the exact value that lib.Ieee gives a float: so a cell is the floor of a real number, but no later than the last, and the map's end a comparison of real numbers.
 -- A number is `fin s m e`: m * 2 ^ e, negative where s is true. 2 ^ e is the fraction up e / down e. Assumes nothing.
-use Prim.Native.Nat.{ℕ, zero, suc, _+_, _-_, _*_, _/_, _%_, _^_, _<_, _≤_}
+use Prim.Native.Nat.{ℕ, zero, suc, _+_, _-_, _*_, _/_, _%_, _^_, _<_, _≤_, zero-le, min}
 use mathlib.Core.Path.{_≡_, refl, sym, ap, ap₂, _∙_}
 use mathlib.Core.Logic.{⊎-elim}
-use mathlib.Core.Bool.{Bool, true, false, not, _&&_, _||_, cond}
-use native.Mathlib.Nat.{mul-pos, mul-one, mul-comm, mul-right-comm, mul-div-mul-right, mul-le-mul-right, mul-lt-mul-of-pos-right, lt-of-mul-lt-mul-right, le-of-mul-le-mul-right}
+use mathlib.Core.Bool.{Bool, true, false, not, _&&_, _||_, cond, and-false}
+use native.Mathlib.Nat.{zero-min, min-eq-right, sub-le, le-of-eq, mul-pos, mul-one, mul-comm, mul-right-comm, mul-div-cancel, mul-div-mul-right, mul-le-mul-right, mul-lt-mul-of-pos-right, lt-of-mul-lt-mul-right, le-of-mul-le-mul-right}
 use native.Mathlib.Omega.{arith}
 use lib.Pow.{pow-pos, field}
 use lib.IntN.{ℤ}
 use lib.Dec.{T, ltb, leb, eqb}
-use borrow.Author.Tests.{eq-eqb, ne-eqb, eqb-false, lt-ltb, le-ltb, ltb-true, ltb-false, leb-true, leb-false}
+use borrow.Author.Tests.{eq-eqb, ne-eqb, eqb-false, lt-ltb, le-ltb, le-leb, lt-leb, leb-true, leb-false}
 use lib.Ieee.{Float, nan, inf, fin, binary32, up, down, fits, isNan, odd, ofFields, ofBits, toBits}
 use lib.Ieee.Exact.{HasValue, odd-sign}
 use lib.Ieee.Bits.{ofBits-toBits}
@@ -58,12 +58,12 @@ not-le a b true h = le-ltb a b (leb-true b a h)
 not-le a b false h = lt-ltb a b (leb-false b a h)
 
 -- n / k and a / d are the same, so they stand the same way to c
-scaled : (n k a d c : ℕ) → 0 < k → 0 < d → n * d ≡ a * k → ltb n (c * k) ≡ ltb a (c * d)
-scaled n k a d c kp dp h = go (ltb a (c * d)) refl
+scaled : (n k a d c : ℕ) → 0 < k → 0 < d → n * d ≡ a * k → leb n (c * k) ≡ leb a (c * d)
+scaled n k a d c kp dp h = go (leb a (c * d)) refl
   where
-    go : (t : Bool) → ltb a (c * d) ≡ t → ltb n (c * k) ≡ t
-    go true e = lt-ltb n (c * k) (lt-of-mul-lt-mul-right d (rw (h, mul-right-comm c k d) (mul-lt-mul-of-pos-right (ltb-true a (c * d) e) kp)))
-    go false e = le-ltb n (c * k) (le-of-mul-le-mul-right (rw (h, mul-right-comm c k d) (mul-le-mul-right k (ltb-false a (c * d) e))) dp)
+    go : (t : Bool) → leb a (c * d) ≡ t → leb n (c * k) ≡ t
+    go true e = le-leb n (c * k) (le-of-mul-le-mul-right (rw (h, mul-right-comm c k d) (mul-le-mul-right k (leb-true a (c * d) e))) dp)
+    go false e = lt-leb n (c * k) (lt-of-mul-lt-mul-right d (rw (h, mul-right-comm c k d) (mul-lt-mul-of-pos-right (leb-false a (c * d) e) kp)))
 
 -- and are 0 together
 zero-alike : (n k a d : ℕ) → 0 < k → 0 < d → n * d ≡ a * k → eqb n 0 ≡ eqb a 0
@@ -89,20 +89,30 @@ module _ (s : Bool) (m : ℕ) (e : ℤ) (held : T (fits binary32 (fin s m e))) w
   pub exact : whole (toBits binary32 (fin s m e)) * down e ≡ m * up e * 2 ^ 149
   exact = sym (fields .2)
 
-  -- the cell is the floor of m * 2 ^ e
-  pub cell-exact : cellOf (fin s m e) ≡ m * up e / down e
-  unfolding cellOf
-  cell-exact =
+  floor-exact : whole (toBits binary32 (fin s m e)) / 2 ^ 149 ≡ m * up e / down e
+  floor-exact =
       sym (mul-div-mul-right (whole (toBits binary32 (fin s m e))) (2 ^ 149) (down-pos e))
       ∙ ap₂ (λ (a b : ℕ). a / b) exact (mul-comm (2 ^ 149) (down e))
       ∙ mul-div-mul-right (m * up e) (down e) (pow-pos 149)
 
-  -- it is on the map where its value is at least 0, so that it has no sign or is 0, and m * 2 ^ e is below the side
-  pub map-exact : (side : ℕ) → onMap side (fin s m e) ≡ ((not s || eqb (m * up e) 0) && ltb (m * up e) (side * down e))
+  -- the cell is the smaller of the floor of m * 2 ^ e and the last cell
+  pub cell-exact : (side : ℕ) → cellOf side (fin s m e) ≡ min (m * up e / down e) (side - 1)
+  unfolding cellOf
+  cell-exact side = rw floor-exact
+
+  -- it is on the map where its value is at least 0, so that it has no sign or is 0, and m * 2 ^ e is at most the side
+  pub map-exact : (side : ℕ) → onMap side (fin s m e) ≡ ((not s || eqb (m * up e) 0) && leb (m * up e) (side * down e))
   unfolding onMap inRange isNan
   map-exact side =
       let bits = toBits binary32 (fin s m e) in
       rw (lt-ltb _ _ (fields .1), not-le bits (2 ^ 31) s (sym (fields .0)), zero-alike (whole bits) (2 ^ 149) (m * up e) (down e) (pow-pos 149) (down-pos e) exact, scaled (whole bits) (2 ^ 149) (m * up e) (down e) side (pow-pos 149) (down-pos e) exact)
+
+  -- at the wall, where the value is the side, it is on the map in the last cell; past the wall it is off
+  pub at-wall : (side : ℕ) → s ≡ false → m * up e ≡ side * down e → (onMap side (fin s m e) ≡ true) × (cellOf side (fin s m e) ≡ side - 1)
+  at-wall side clear wall = (rw (map-exact side, clear, le-leb _ _ (le-of-eq wall)), rw (cell-exact side, wall, mul-div-cancel side (down-pos e), min-eq-right (sub-le side 1)))
+
+  pub past-wall : (side : ℕ) → side * down e < m * up e → onMap side (fin s m e) ≡ false
+  past-wall side past = rw (map-exact side, lt-leb _ _ past, and-false)
 
 -- what has no value is not on the map: a NaN, an infinity
 pub nan-off : (side : ℕ) → onMap side nan ≡ false
@@ -114,10 +124,10 @@ unfolding onMap inRange isNan toBits
 inf-off true side = refl
 inf-off false side = refl
 
--- minus zero is 0: it is on every map that has a cell, in cell 0; the least number below it is on none
-pub minus-zero : (side : ℕ) → 0 < side → (onMap side (ofBits binary32 2147483648) ≡ true) × (cellOf (ofBits binary32 2147483648) ≡ 0)
+-- minus zero is 0: it is on every map, in cell 0; the least number below it is on none
+pub minus-zero : (side : ℕ) → (onMap side (ofBits binary32 2147483648) ≡ true) × (cellOf side (ofBits binary32 2147483648) ≡ 0)
 unfolding onMap inRange whole cellOf ofBits toBits isNan
-minus-zero side h = (lt-ltb 0 (side * 2 ^ 149) (mul-pos h (pow-pos 149)), refl)
+minus-zero side = (le-leb 0 (side * 2 ^ 149) zero-le, zero-min (side - 1))
 
 pub below-zero : (side : ℕ) → onMap side (ofBits binary32 2147483649) ≡ false
 unfolding onMap inRange whole ofBits toBits isNan

@@ -1,47 +1,33 @@
 -- The laws that callers go by: none says what being on the map means, or what a cell is. Assumes nothing.
-use Prim.Native.Nat.{ℕ, _*_, _^_, _<_}
+use Prim.Native.Nat.{ℕ, _/_, _^_, _-_, _<_}
 use mathlib.Core.Path.{_≡_, refl}
-use mathlib.Core.Bool.{Bool, true, false, not, _&&_, _||_, cond}
-use native.Mathlib.Nat.{div-lt-iff-lt-mul}
+use mathlib.Core.Bool.{Bool, true, false, _&&_, cond}
+use native.Mathlib.Nat.{min-le-right, lt-of-le-of-lt, mul-pos}
 use native.Mathlib.Omega.{arith}
 use lib.Pow.{pow-pos}
-use lib.Dec.{ltb, eqb}
-use lib.Ieee.{Float, binary32, toBits, isNan}
-use borrow.Author.Tests.{ltb-true}
-use Rattle.order.specs.TestLaws.{and→}
+use lib.Ieee.{Float, binary32, toBits}
 use Rattle.squares.specs.declared.shape.Shape.{Shape}
 use Rattle.squares.specs.Shape.{width, height, allowed}
-use Rattle.position.specs.Cell.{exponent, whole, inRange, onMap, cellOf}
+use Rattle.squares.specs.Bounds.{Allowed}
+use Rattle.position.specs.Cell.{whole, cellOf}
 use Rattle.position.specs.Answer.{onTown, columnOf, rowOf}
-use Rattle.position.specs.Spots.{coordinateOn, spotOn}
+use Rattle.position.specs.Spots.{spotOn}
 use Rattle.position.specs.declared.Position.{Position}
-use Rattle.position.specs.declared.Coordinate.{Coordinate}
 use Rattle.position.specs.declared.Spot.{Spot}
 
--- ---- a cell on the map is below the side
+-- ---- a position's cell is a cell of the town
 
-cell-below : (side : ℕ) (x : Float) → onMap side x ≡ true → cellOf x < side
-unfolding onMap inRange cellOf
-cell-below side x h =
-    let bits = toBits binary32 x in
-    let n = and→ (ltb (exponent bits) 255 && (ltb bits (2 ^ 31) || eqb (whole bits) 0)) (ltb (whole bits) (side * 2 ^ 149)) (and→ (not (isNan x)) (inRange side bits) h .1) .1 in
-    div-lt-iff-lt-mul (pow-pos 149) .1 (ltb-true (whole bits) (side * 2 ^ 149) n)
+cell-below : (side : ℕ) (x : Float) → 0 < side → cellOf side x < side
+unfolding cellOf
+cell-below side x h = let last : side - 1 < side = omega arith in lt-of-le-of-lt (min-le-right (whole (toBits binary32 x) / 2 ^ 149) (side - 1)) last
 
-pub coordinate-below : (side : ℕ) (x : Float) (cell : ℕ) → coordinateOn side x ≡ Coordinate.Cell cell → cell < side
-unfolding coordinateOn
-coordinate-below side x cell = go (onMap side x) (cell-below side x)
-  where
-    go : (t : Bool) → (t ≡ true → cellOf x < side) → cond t (Coordinate.Cell (cellOf x)) Coordinate.Off ≡ Coordinate.Cell cell → cell < side
-    go true l h = let z : cellOf x ≡ cell = cc in rw z at (l refl)
-    go false l h = let z : _≡_ {A = ℕ} 0 1 = cc in omega arith
+pub column-below : (s : Shape) (p : Position) → Allowed s → columnOf s p < width s
+unfolding columnOf
+column-below s p h = cell-below (width s) (p .x) (mul-pos (h .columns) (pow-pos (s .k)))
 
-pub column-below : (s : Shape) (p : Position) → onTown s p ≡ true → columnOf s p < width s
-unfolding onTown columnOf
-column-below s p h = cell-below (width s) (p .x) (and→ (onMap (width s) (p .x)) (onMap (height s) (p .y)) h .0)
-
-pub row-below : (s : Shape) (p : Position) → onTown s p ≡ true → rowOf s p < height s
-unfolding onTown rowOf
-row-below s p h = cell-below (height s) (p .y) (and→ (onMap (width s) (p .x)) (onMap (height s) (p .y)) h .1)
+pub row-below : (s : Shape) (p : Position) → Allowed s → rowOf s p < height s
+unfolding rowOf
+row-below s p h = cell-below (height s) (p .y) (mul-pos (h .rows) (pow-pos (s .k)))
 
 -- ---- what a position's answer tells, of an allowed shape
 

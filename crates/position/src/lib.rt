@@ -2,11 +2,11 @@
 // Only a NaN is told apart as a float. The rest is worked out on the bits, in whole numbers.
 use squares::Shape;
 ghost use mathlib.Core.Path.{_≡_};
-ghost use mathlib.Core.Bool.{cond};
-ghost use Prim.Native.Nat.{_*_, _/_, _^_, _<_, _≤_};
+ghost use Prim.Native.Nat.{_+_, _*_, _/_, _^_, _≤_};
+ghost use lib.Dec.{eqb};
 ghost use lib.Ieee.{binary32, ofBits};
-ghost use Rattle.position.specs.Cell.{whole, inRange};
-ghost use Rattle.position.specs.Spots.{coordinateOn, spotOn};
+ghost use Rattle.position.specs.Cell.{fraction, whole};
+ghost use Rattle.position.specs.Spots.{coordinateOn, spotOn, bitsOn, Side};
 
 // Two coordinates kept together: x counts from the west wall, y from the south wall.
 pub struct Position {
@@ -33,10 +33,12 @@ pub fn locate(s: Shape, p: Position) -> Spot
     if !s.allowed() {
         return Spot::Off;
     }
-    let Coordinate::Cell(column) = cell_of(p.x, s.width()) else {
+    let width = s.width();
+    let height = s.height();
+    let Coordinate::Cell(column) = cell_of(p.x, width) else {
         return Spot::Off;
     };
-    let Coordinate::Cell(row) = cell_of(p.y, s.height()) else {
+    let Coordinate::Cell(row) = cell_of(p.y, height) else {
         return Spot::Off;
     };
     Spot::Cell(column, row)
@@ -52,9 +54,9 @@ pub fn float_of(bits: u32) -> f32
     f32::from_bits(bits)
 }
 
-// The cell of any float, on a side no longer than a town's. A NaN has no bits to ask for.
+// The cell of any float, on a side of a town. A NaN has no bits to ask for.
 pub fn cell_of(x: f32, side: u32) -> Coordinate
-    requires { ⌜ side ≤ 256 ⌝ }
+    requires { ⌜ Side side ⌝ }
     ensures { λ r. ⌜ r ≡ coordinateOn side x ⌝ }
 {
     if x != x {
@@ -65,43 +67,66 @@ pub fn cell_of(x: f32, side: u32) -> Coordinate
 
 // The cell of the number with these bits.
 fn cell_of_bits(bits: u32, side: u32) -> Coordinate
-    requires { ⌜ side ≤ 256 ⌝ }
-    ensures { λ r. ⌜ r ≡ cond (inRange side bits) (Coordinate.Cell (whole bits / 2 ^ 149)) Coordinate.Off ⌝ }
+    requires { ⌜ Side side ⌝ }
+    ensures { λ r. ⌜ r ≡ bitsOn side bits ⌝ }
 {
     // minus zero is zero
     if bits == 0x8000_0000 {
-        return cell_below(0, side);
+        return cell_or_wall(0, side);
     }
-    // at least 256, an infinity, or below 0
-    if 0x4380_0000 <= bits {
+    // above 256, an infinity, or below 0
+    if 0x4380_0000 < bits {
         return Coordinate::Off;
     }
-    cell_below(bits, side)
+    cell_or_wall(bits, side)
 }
 
-// The cell of the number with these bits, which is below 256, its sign bit clear.
-fn cell_below(bits: u32, side: u32) -> Coordinate
-    requires { ⌜ bits < 135 * 2 ^ 23 ⌝ }
-    ensures { λ r. ⌜ r ≡ cond (inRange side bits) (Coordinate.Cell (whole bits / 2 ^ 149)) Coordinate.Off ⌝ }
+// The cell of the number with these bits, which is at most 256, its sign bit clear: its floor, and at
+// the wall the last one.
+fn cell_or_wall(bits: u32, side: u32) -> Coordinate
+    requires { ⌜ Side side ⌝ }
+    requires { ⌜ bits ≤ 135 * 2 ^ 23 ⌝ }
+    ensures { λ r. ⌜ r ≡ bitsOn side bits ⌝ }
 {
     let cell = floor(bits);
     if cell < side {
-        Coordinate::Cell(cell)
-    } else {
-        Coordinate::Off
+        return Coordinate::Cell(cell);
     }
+    if at_wall(bits, side) {
+        return Coordinate::Cell(side - 1);
+    }
+    Coordinate::Off
 }
 
-// The greatest whole number not above the value of these bits, which is below 256: the exponent is
-// below 135. From exponent 127 on, which is 1, the value is digits * 2^(e - 150).
+// The greatest whole number not above the value of these bits, which is at most 256: the exponent is
+// at most 135. From exponent 127 on, which is 1, the value is digits * 2^(e - 150).
 fn floor(bits: u32) -> u32
-    requires { ⌜ bits < 135 * 2 ^ 23 ⌝ }
+    requires { ⌜ bits ≤ 135 * 2 ^ 23 ⌝ }
     ensures { λ r. ⌜ r ≡ whole bits / 2 ^ 149 ⌝ }
 {
     let e = bits >> 23;
     if e < 127 {
         return 0;
     }
-    let digits = 0x80_0000 + bits % 0x80_0000;
-    digits >> (150 - e)
+    digits(bits) >> (150 - e)
+}
+
+// Whether the value of these bits, which is at most 256, is the side itself.
+fn at_wall(bits: u32, side: u32) -> bool
+    requires { ⌜ Side side ⌝ }
+    requires { ⌜ bits ≤ 135 * 2 ^ 23 ⌝ }
+    ensures { λ r. ⌜ r ≡ eqb (whole bits) (side * 2 ^ 149) ⌝ }
+{
+    let e = bits >> 23;
+    if e < 127 {
+        return false;
+    }
+    digits(bits) == side << (150 - e)
+}
+
+// The fraction field below its leading 1.
+fn digits(bits: u32) -> u32
+    ensures { λ r. ⌜ r ≡ 2 ^ 23 + fraction bits ⌝ }
+{
+    0x80_0000 + bits % 0x80_0000
 }

@@ -54,7 +54,7 @@ module _ {t : Tables} {p : Position} {b : List ℕ} (ok : Searchable t p b) {s :
     cell = spot-on t p (ok .size) shape at x y e
 
     pub search-asks : OnMap s x y × (length (t .derived .starts) ≡ squares s + 1)
-    search-asks = rw (shape, ← cell .1, ← cell .2) (look-asks t p (ok .size) (ok .town))
+    search-asks = rw (shape, ← cell .1, ← cell .2) (look-asks t p (ok .size))
 
     pub search-kept : {b′ : List ℕ} {r : Looked} → Looks s x y (t .derived .starts) (t .derived .entries) b b′ r → Keeps (both t t) (event (searching p b) (b′ ∷ []) (searchedIs (Searched.Found (r .squares) (r .zones))))
     unfolding meaning first zoneHolds
@@ -64,4 +64,4 @@ module _ {t : Tables} {p : Position} {b : List ℕ} (ok : Searchable t p b) {s :
         found : Sound t → Front b b′ (r .zones) (zonesAt (townOf t) p)
         found sound =
             let h = rw (shape, ← cell .1, ← cell .2) at l in
-            subst (λ (k : List ℕ). Front b b′ (r .zones) k) (looked-holds sound (columnOf (shapeOf t) p) (rowOf (shapeOf t) p) (column-below (shapeOf t) p (cell .0)) (row-below (shapeOf t) p (cell .0)) (length b) (ok .enough)) (h .found)
+            subst (λ (k : List ℕ). Front b b′ (r .zones) k) (looked-holds sound (columnOf (shapeOf t) p) (rowOf (shapeOf t) p) (column-below (shapeOf t) p (ok .size .shape)) (row-below (shapeOf t) p (ok .size .shape)) (length b) (ok .enough)) (h .found)

@@ -8,8 +8,8 @@ use Rattle.position.proofs.floor.Tie as tie
 returns : tie.Need-returns
 returns c = floor-small _ _ (omega arith) (c .if1 .taken)
 
-add-digits : tie.Need-add-digits
-add-digits c = search needs
+digits-requires : tie.Need-digits-requires
+digits-requires c κs = search needs
 
 sub-result : tie.Need-sub-result
 sub-result c = search needs
@@ -18,7 +18,7 @@ shr-result : tie.Need-shr-result
 shr-result c = search needs
 
 returns-2 : tie.Need-returns-2
-returns-2 c = floor-down _ _ (omega arith) (c .if1 .left) (omega arith)
+returns-2 c = rw (c .digits .ensures) (floor-down _ _ (omega arith) (c .before .if1 .left) (omega arith))
 
 pub floor-spec : {M : Type 1} → statement M
-floor-spec = tie.close (tie.spec returns add-digits sub-result shr-result returns-2)
+floor-spec = tie.close (tie.spec returns digits-requires sub-result shr-result returns-2)

@@ -153,7 +153,7 @@ Made by `cargo run --release --bin bench -- --write` in `rust/`, with seed {seed
 
 Times are nanoseconds a call: calls are timed in batches, and of each batch the best of nine rounds counts. All run in one
 program on the same zones, cars and moves, and every answer was compared. The library is called through the crate, with
-all its checks. The others check nothing:
+all its checks. The others check nothing, and take the floor alone for the cell, since no position here is at an outer wall:
 
 - **scan** compares the rectangle of every zone number, standing or not, with the old and the new cell;
 - **cells** keeps one list of zones for each unit cell;

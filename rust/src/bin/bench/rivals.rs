@@ -54,7 +54,7 @@ impl Engine for Library {
 type Cell = (u32, u32);
 
 fn cell(at: Position) -> Cell {
-    // SAFETY: a position on the map is from 0 to below 256.
+    // SAFETY: the work's positions are from 0 to below 256. None is at a wall, so that a cell is the floor alone.
     unsafe { (at.x.to_int_unchecked(), at.y.to_int_unchecked()) }
 }
 

@@ -77,7 +77,8 @@ pub fn cut(s: Shape, r: Rectangle) -> Vec<u32> {
     all
 }
 
-/// The cell of a coordinate by its bits, none where it is not on the map. The value is n / 2^149 in whole numbers.
+/// The cell of a coordinate by its bits, none where it is not on the map. The value is n / 2^149 in whole numbers. At the
+/// side's end it is in the last cell.
 pub fn coordinate(bits: u32, side: u32) -> Option<u32> {
     let (sign, e, f) = (bits >> 31, bits >> 23 & 255, bits & 0x7F_FFFF);
     let zero = e == 0 && f == 0;
@@ -85,14 +86,18 @@ pub fn coordinate(bits: u32, side: u32) -> Option<u32> {
         return None;
     }
     let (n, doubled) = if e == 0 { (f as u64, 0) } else { (0x80_0000 + f as u64, e - 1) };
-    // floor(n * 2^doubled / 2^149); n is below 2^24
-    let cell = match doubled {
-        0..=124 => 0,
-        125..=149 => n >> (149 - doubled),
-        150..=170 => n << (doubled - 149),
-        _ => u64::MAX,
+    // floor(n * 2^doubled / 2^149), and whether that is all of it; n is below 2^24
+    let (floor, whole) = match doubled {
+        0..=124 => (0, n == 0),
+        125..=149 => (n >> (149 - doubled), n % (1 << (149 - doubled)) == 0),
+        150..=170 => (n << (doubled - 149), true),
+        _ => (u64::MAX, true),
     };
-    (cell < side as u64).then_some(cell as u32)
+    let at_end = floor == side as u64 && whole;
+    if at_end {
+        return Some(side - 1);
+    }
+    (floor < side as u64).then_some(floor as u32)
 }
 
 /// The cell of a position by its bits.
@@ -410,14 +415,20 @@ mod tests {
             (0x8000_0000, Some(0)),
             (0x3F80_0000, Some(1)),
             (0x437F_FFFF, Some(255)),
+            (0x4380_0000, Some(255)),
         ];
-        let off = [0x4380_0000, 0x8000_0001, 0xBF80_0000, 0x7F80_0000].map(|bits| (bits, None));
+        let off = [0x4380_0001, 0x8000_0001, 0xBF80_0000, 0x7F80_0000].map(|bits| (bits, None));
         for (bits, cell) in on.into_iter().chain(off) {
             assert_eq!(coordinate(bits, 256), cell);
         }
         for bits in (0..0x4400_0000).step_by(997) {
             let value = f32::from_bits(bits);
-            assert_eq!(coordinate(bits, 256), (value < 256.0).then_some(value as u32));
+            assert_eq!(coordinate(bits, 256), (value <= 256.0).then_some((value as u32).min(255)));
+        }
+        for side in 1..=256 {
+            let end = (side as f32).to_bits();
+            let about = [end - 1, end, end + 1].map(|bits| coordinate(bits, side));
+            assert_eq!(about, [Some(side - 1), Some(side - 1), None]);
         }
     }
 }

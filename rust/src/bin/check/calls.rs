@@ -222,7 +222,7 @@ pub fn rectangle(random: &mut Random, s: Shape) -> Rectangle {
     r
 }
 
-/// A float in a cell: its first number, its last, or one between.
+/// A float in a cell: its first number, the last before the next cell, or one between.
 fn within(random: &mut Random, cell: u32) -> u32 {
     let first = (cell as f32).to_bits();
     let last = ((cell + 1) as f32).to_bits() - 1;
@@ -234,6 +234,14 @@ fn within(random: &mut Random, cell: u32) -> u32 {
         1 => last,
         _ => random.between(first, last),
     }
+}
+
+/// A float in a cell on a side. The last cell has the side's end too.
+fn along(random: &mut Random, cell: u32, side: u32) -> u32 {
+    if cell == side - 1 && random.once_in(3) {
+        return (side as f32).to_bits();
+    }
+    within(random, cell)
 }
 
 /// A NaN's bits: of either sign, quiet or signalling, with the least payload, the largest, or any.
@@ -284,12 +292,16 @@ pub fn position(random: &mut Random, s: Shape, from: Option<[u32; 2]>) -> [u32; 
             let low = (1 << s.k) - 1;
             ((random.below(s.p) << s.k) + (x & low), (random.below(s.q) << s.k) + (y & low))
         }
+        // to a wall, or along it
+        (Some((x, y)), 4) => {
+            (if random.once_in(2) { wide - 1 } else { x }, if random.once_in(2) { high - 1 } else { y })
+        }
         (Some((x, y)), _) => {
             let mut step = |at: u32, side: u32| (at + random.below(3)).saturating_sub(1).min(side - 1);
             (step(x, wide), step(y, high))
         }
     };
-    let mut at = [within(random, x), within(random, y)];
+    let mut at = [along(random, x, wide), along(random, y, high)];
     if random.once_in(12) {
         at[0] = odd(random, wide);
     }

@@ -36,6 +36,8 @@ struct Check {
     unsound: [u64; TABLES.len()],
     // how many NaNs `where` gave back: signalling and quiet with the sign bit clear, then the same with it set
     nans: [u64; 4],
+    // positions at the end of x and of y that were accepted, and those one float past it that got 10
+    walls: [u64; 4],
 }
 
 /// Says what was wrong, and ends.
@@ -62,6 +64,7 @@ impl Check {
             sound_said: [0; 2],
             unsound: [0; TABLES.len()],
             nans: [0; 4],
+            walls: [0; 4],
         }
     }
 
@@ -177,6 +180,23 @@ impl Check {
         self.compare(&call, returned, &answer, &mut buffers, &mut values);
         if matches!(call, Call::Where { .. }) && returned == 0 {
             self.count_nans(values.now());
+        }
+        if let Call::Report { at, .. } | Call::Search { at } = call {
+            self.count_walls(at, returned);
+        }
+    }
+
+    /// Counts a position at the outer walls, and one just past them, by what it got.
+    fn count_walls(&mut self, at: [u32; 2], returned: u32) {
+        let sides = [brute::columns(self.town.shape), brute::rows(self.town.shape)];
+        for (axis, (bits, side)) in at.into_iter().zip(sides).enumerate() {
+            let end = (side as f32).to_bits();
+            if bits == end && returned == 0 {
+                self.walls[axis] += 1;
+            }
+            if bits == end + 1 && returned == 10 {
+                self.walls[2 + axis] += 1;
+            }
         }
     }
 
@@ -483,7 +503,11 @@ impl Check {
         println!();
         let [plus, plus_quiet, minus, minus_quiet] = self.nans;
         println!("NaNs given back by where: +signalling {plus}, +quiet {plus_quiet}, -signalling {minus}, -quiet {minus_quiet}");
-        all && self.sound_said.iter().chain(&self.nans).all(|&times| times > 0)
+        let [east, north, past_east, past_north] = self.walls;
+        println!(
+            "at the walls: x = W {east}, y = H {north}; one float past them, refused: x {past_east}, y {past_north}"
+        );
+        all && self.sound_said.iter().chain(&self.nans).chain(&self.walls).all(|&times| times > 0)
     }
 }
 
