@@ -5,7 +5,7 @@ use mathlib.Core.Bool.{true}
 use mathlib.Core.List.{List, [], _∷_, _++_, map}
 use mathlib.Core.Option.{some}
 use lib.Ieee.{binary32, isNan, ofBits, toBits}
-use lib.ListN.{length, replicate}
+use lib.ListN.{length}
 use Rattle.order.specs.Order.{upto, span, keep}
 use Rattle.squares.specs.declared.shape.Shape.{Shape}
 use Rattle.squares.specs.Shape.{shape}
@@ -16,7 +16,7 @@ use Rattle.grid.specs.Promises.{numberGives}
 use Rattle.position.specs.declared.Position.{Position}
 use Rattle.position.specs.Cell.{whole, inRange, onMap, cellOf}
 use Rattle.position.specs.Answer.{onTown, columnOf, rowOf}
-use Rattle.model.specs.Model.{Opening, Town, nowhere, searching, emptied, after, looked, Lengths, meaning, refusal}
+use Rattle.model.specs.Model.{Opening, nowhere, searching, emptied, after, looked, meaning, refusal}
 use Rattle.model.specs.Whole.{rect}
 
 -- k=2, P=Q=4; k=0, P=3, Q=2; 256 wide and high; k=2, P=3, Q=2: 12 wide

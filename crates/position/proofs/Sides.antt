@@ -3,14 +3,14 @@ use Prim.Native.Nat.{ℕ, suc, _+_, _-_, _*_, _/_, _^_, _≤_, _<_}
 use mathlib.Core.Path.{_≡_, refl}
 use mathlib.Core.Logic.{⊎-elim}
 use mathlib.Core.Bool.{true, false, and-false}
-use native.Mathlib.Nat.{mul-pos, mul-div-cancel, min-eq-left, min-eq-right, sub-le, le-of-lt, le-of-eq, le-antisymm, div-lt-iff-lt-mul, le-div-iff-mul-le}
+use native.Mathlib.Nat.{mul-pos, min-eq-left, le-of-lt, le-of-eq, le-antisymm, div-lt-iff-lt-mul, le-div-iff-mul-le}
 use native.Mathlib.Omega.{arith}
 use lib.Pow.{pow-pos}
 use borrow.Author.Tests.{ne-eqb, lt-ltb, le-ltb, le-leb, lt-leb}
 use Rattle.order.specs.TestLaws.{lt-or-le}
 use Rattle.position.specs.Cell.{exponent, fraction, whole, inRange}
 use Rattle.position.specs.Spots.{bitsOn}
-use Rattle.position.specs.Exact.{whole-zero, whole-some}
+use Rattle.position.specs.Exact.{whole-zero, whole-some, at-end}
 use Rattle.position.specs.declared.Coordinate.{Coordinate}
 use Rattle.position.proofs.Shifts.{past}
 
@@ -65,7 +65,7 @@ module _ (side bits : ℕ) (few : bits ≤ 135 * 2 ^ 23) where
 
   -- it is the side
   pub is-side : whole bits ≡ side * 2 ^ 149 → Coordinate.Cell (side - 1) ≡ bitsOn side bits
-  is-side h = rw (on-side (le-of-eq h), h, mul-div-cancel side (pow-pos 149), min-eq-right (sub-le side 1))
+  is-side h = rw (on-side (le-of-eq h), at-end (whole bits) (2 ^ 149) side (pow-pos 149) h)
 
   -- its floor is not below the side, and it is not the side
   pub above-side : (cell : ℕ) → cell ≡ whole bits / 2 ^ 149 → side ≤ cell → (whole bits ≡ side * 2 ^ 149 → ⊥) → Coordinate.Off ≡ bitsOn side bits

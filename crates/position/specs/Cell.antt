@@ -23,6 +23,9 @@ inRange side bits = ltb (exponent bits) 255 && (ltb bits (2 ^ 31) || eqb (whole 
 unfoldable pub onMap : ℕ → Float → Bool
 onMap side x = not (isNan x) && inRange side (toBits binary32 x)
 
--- the greatest whole number not above the value, or the side's last cell, whichever is smaller
+-- the cell of a number's bits: the greatest whole number not above the value, or the side's last cell, whichever is smaller
+abbrev pub cellIn : ℕ → ℕ → ℕ
+cellIn side bits = min (whole bits / 2 ^ 149) (side - 1)
+
 unfoldable pub cellOf : ℕ → Float → ℕ
-cellOf side x = min (whole (toBits binary32 x) / 2 ^ 149) (side - 1)
+cellOf side x = cellIn side (toBits binary32 x)

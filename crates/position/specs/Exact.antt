@@ -74,6 +74,10 @@ zero-alike n k a d kp dp h = ⊎-elim
     ⊎-elim (λ (g : a < 1). let y : a ≡ 0 = omega arith in absurd (omega (arith, rw y at h, mul-pos {m = n} {n = d} (omega arith) dp))) (λ (g : 1 ≤ a). ne-eqb n 0 (omega arith) ∙ sym (ne-eqb a 0 (omega arith))) (lt-or-le a 1))
     (lt-or-le n 1)
 
+-- a value that is the side is in the side's last cell
+pub at-end : (n d side : ℕ) → 0 < d → n ≡ side * d → min (n / d) (side - 1) ≡ side - 1
+at-end n d side dp h = rw (h, mul-div-cancel side dp) (min-eq-right (sub-le side 1))
+
 -- ---- every number that an f32 holds
 
 module _ (s : Bool) (m : ℕ) (e : ℤ) (held : T (fits binary32 (fin s m e))) where
@@ -109,7 +113,7 @@ module _ (s : Bool) (m : ℕ) (e : ℤ) (held : T (fits binary32 (fin s m e))) w
 
   -- at the wall, where the value is the side, it is on the map in the last cell; past the wall it is off
   pub at-wall : (side : ℕ) → s ≡ false → m * up e ≡ side * down e → (onMap side (fin s m e) ≡ true) × (cellOf side (fin s m e) ≡ side - 1)
-  at-wall side clear wall = (rw (map-exact side, clear, le-leb _ _ (le-of-eq wall)), rw (cell-exact side, wall, mul-div-cancel side (down-pos e), min-eq-right (sub-le side 1)))
+  at-wall side clear wall = (rw (map-exact side, clear, le-leb _ _ (le-of-eq wall)), cell-exact side ∙ at-end (m * up e) (down e) side (down-pos e) wall)
 
   pub past-wall : (side : ℕ) → side * down e < m * up e → onMap side (fin s m e) ≡ false
   past-wall side past = rw (map-exact side, lt-leb _ _ past, and-false)

@@ -1,10 +1,10 @@
 -- What the functions that find a cell answer.
-use Prim.Native.Nat.{ℕ, _-_, _/_, _^_, _<_, _≤_, min}
+use Prim.Native.Nat.{ℕ, _<_, _≤_}
 use mathlib.Core.Bool.{_&&_, cond}
 use lib.Ieee.{Float}
 use Rattle.squares.specs.declared.shape.Shape.{Shape}
 use Rattle.squares.specs.Shape.{allowed}
-use Rattle.position.specs.Cell.{whole, inRange, onMap, cellOf}
+use Rattle.position.specs.Cell.{inRange, cellIn, onMap, cellOf}
 use Rattle.position.specs.Answer.{onTown, columnOf, rowOf}
 use Rattle.position.specs.declared.Position.{Position}
 use Rattle.position.specs.declared.Coordinate.{Coordinate}
@@ -21,7 +21,7 @@ coordinateOn side x = cond (onMap side x) (Coordinate.Cell (cellOf side x)) Coor
 
 -- the same of a number's bits
 abbrev pub bitsOn : ℕ → ℕ → Coordinate
-bitsOn side bits = cond (inRange side bits) (Coordinate.Cell (min (whole bits / 2 ^ 149) (side - 1))) Coordinate.Off
+bitsOn side bits = cond (inRange side bits) (Coordinate.Cell (cellIn side bits)) Coordinate.Off
 
 -- a position's answer; a shape beyond the bounds has no map
 unfoldable pub spotOn : Shape → Position → Spot
