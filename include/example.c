@@ -10,17 +10,20 @@
 
 static int play(unwadegiro_town *town)
 {
-    uint32_t entered[16], left[16], values[3];
+    uint32_t entered[16], left[16], values[9];
 
     if (unwadegiro_town_add(town, 1, 5, 2, 8, 12, values, 3) != UNWADEGIRO_DONE)
         return 1;
     printf("zone 1 has %u squares, and %u cars are inside\n", (unsigned)values[0], (unsigned)values[1]);
-    if (unwadegiro_town_report(town, 7, 5.5f, 3.0f, entered, 16, left, 16, values, 3) != UNWADEGIRO_DONE)
+    if (unwadegiro_town_report(town, 7, 3, 5.5f, 3.0f, entered, 16, left, 16, values, 3) != UNWADEGIRO_DONE)
         return 1;
-    printf("car 7 entered %u zone, the first is %u\n", (unsigned)values[1], (unsigned)entered[0]);
+    printf("car 7 of team 3 entered %u zone, the first is %u\n", (unsigned)values[1], (unsigned)entered[0]);
     if (unwadegiro_town_count(town, 1, values, 1) != UNWADEGIRO_DONE)
         return 1;
     printf("zone 1 counts %u car\n", (unsigned)values[0]);
+    if (unwadegiro_town_holder(town, 1, values, 9) != UNWADEGIRO_DONE)
+        return 1;
+    printf("team %u holds it, with %u car inside\n", (unsigned)values[8], (unsigned)values[values[8]]);
     return 0;
 }
 

@@ -14,12 +14,12 @@
  *
  *   head     uint32_t   shape and capacities
  *   zones    uint32_t   the zones' rectangles
- *   cars     uint32_t   which cars are on the map
+ *   cars     uint32_t   which cars are on the map, and for which team
  *   spots    float      the cars' positions
  *   starts   uint32_t   where each square's list starts
  *   entries  uint32_t   the lists of zones
  *   rosters  uint8_t    which car is in which zone
- *   tallies  uint32_t   how many cars are in each zone
+ *   tallies  uint32_t   how many cars are in each zone, of all teams and of each, and which team holds it
  *
  * docs/LAYOUT.md says what stands in them. A table that a call does not change is lent as const.
  *
@@ -33,6 +33,11 @@
  *
  * On tables that are not sound (unwadegiro_sound), a call still ends, stays within what it was lent and gives every
  * refusal but 12 as said; what an accepted call answers and writes there is not promised, open, sound and where apart.
+ *
+ * Teams. A car on the map has a team, 0 to 7: the one that it came with, until it leaves. It may come back with another.
+ * Team 0 are the spectators: they are on rosters and counted, and hold nothing. The holder of a zone is the team from 1 to
+ * 7 that has strictly more cars inside than each other team from 1 to 7. Where there is none, by a tie or because no car of
+ * these teams is inside, nobody holds the zone, written 0.
  *
  * NaNs. The proofs know one NaN, which has no bits of its own. So where a NaN stands in spots, what a call keeps there or
  * unwadegiro_where gives is proved to be a NaN, but not to have the same bits. A NaN is never on the map, so no call
@@ -97,7 +102,8 @@
 extern "C" {
 #endif
 
-/* What a call returns. A call meets the refusals named with it, in rising order: the first that applies is given. */
+/* What a call returns. A call meets the refusals named with it, in the order in which they are named: the first that
+ * applies is given. 14 stands in a log's answers alone. */
 #define UNWADEGIRO_DONE 0u               /* done */
 #define UNWADEGIRO_BAD_SHAPE 1u          /* the shape is beyond the bounds */
 #define UNWADEGIRO_BAD_CAPACITY 2u       /* a capacity is beyond the bounds */
@@ -112,6 +118,7 @@ extern "C" {
 #define UNWADEGIRO_BUFFER_SHORT 11u      /* a buffer is too short */
 #define UNWADEGIRO_NO_ROOM 12u           /* the zone's squares do not fit into the entries that are free */
 #define UNWADEGIRO_BAD_SQUARE 13u        /* no such square: its level, number or corner */
+#define UNWADEGIRO_WRONG_TEAM 15u        /* the team is above 7, or not the one that the car on the map has */
 
 /* The bounds. W = P * 2^k and H = Q * 2^k are the town's columns and rows. */
 #define UNWADEGIRO_MAX_K 5u
@@ -119,6 +126,7 @@ extern "C" {
 #define UNWADEGIRO_MAX_ZONES 256u
 #define UNWADEGIRO_MAX_CARS 1024u
 #define UNWADEGIRO_MAX_ENTRIES 16384u
+#define UNWADEGIRO_MAX_TEAM 7u
 
 /* The code of a square in the list of a cut: level * UNWADEGIRO_LEVEL + its number on that level. */
 #define UNWADEGIRO_LEVEL 1048576u
@@ -144,7 +152,7 @@ uint32_t unwadegiro_open(uint32_t *head, size_t head_len, uint32_t *zones, size_
 
 /*
  * Adds a zone: its number and its rectangle, the cells with a <= x < a + w and b <= y < b + h. Cars that stand in it are
- * on its roster, and counted, at once.
+ * on its roster, and counted for their teams, at once.
  * Values, 2: how many squares its cut has; how many cars are inside.
  * Refusals: 3, 4, 6, 9, 12.
  */
@@ -164,19 +172,20 @@ uint32_t unwadegiro_remove(const uint32_t *head, size_t head_len, uint32_t *zone
                            uint8_t *rosters, size_t rosters_len, uint32_t *tallies, size_t tallies_len, uint32_t zone);
 
 /*
- * Places a car on the map, or moves it. A position is on the map where 0 <= x <= W and 0 <= y <= H, -0.0f too;
- * its cell is column floor(x), row floor(y), and at x = W or y = H the last one. `entered` gets the zones that hold the
- * new cell and not the old, `left` those that hold the old and not the new; each must have room for as many zones as the
- * zone capacity. A car that was off the map enters all that hold the new cell.
+ * Places a car on the map with a team, 0 to 7, or moves it; a car on the map names the team that it has. A position is on
+ * the map where 0 <= x <= W and 0 <= y <= H, -0.0f too; its cell is column floor(x), row floor(y), and at x = W or y = H
+ * the last one. `entered` gets the zones that hold the new cell and not the old, `left` those that hold the old and not
+ * the new; each must have room for as many zones as the zone capacity. A car that was off the map enters all that hold
+ * the new cell. Where tables that are not sound give a car a team above 7, every report of it gets 15.
  * Values, 3: squares looked into (0 where the cell stays the same); how many zones are in `entered`; how many in `left`.
- * Refusals: 3, 5, 10, 11.
+ * Refusals: 3, 5, 15, 10, 11.
  */
 uint32_t unwadegiro_report(const uint32_t *head, size_t head_len, const uint32_t *zones, size_t zones_len,
                            uint32_t *cars, size_t cars_len, float *spots, size_t spots_len, const uint32_t *starts,
                            size_t starts_len, const uint32_t *entries, size_t entries_len, uint8_t *rosters,
-                           size_t rosters_len, uint32_t *tallies, size_t tallies_len, uint32_t car, float x, float y,
-                           uint32_t *entered, size_t entered_len, uint32_t *left, size_t left_len, uint32_t *values,
-                           size_t values_len);
+                           size_t rosters_len, uint32_t *tallies, size_t tallies_len, uint32_t car, uint32_t team,
+                           float x, float y, uint32_t *entered, size_t entered_len, uint32_t *left, size_t left_len,
+                           uint32_t *values, size_t values_len);
 
 /*
  * Takes a car off the map. `left` gets the zones that it was in; it must have room for the zone capacity.
@@ -212,8 +221,8 @@ uint32_t unwadegiro_roster(const uint32_t *head, size_t head_len, const uint32_t
                            uint32_t zone, uint32_t *inside, size_t inside_len, uint32_t *values, size_t values_len);
 
 /*
- * How many cars are in a zone: as many as unwadegiro_roster lists. The number is read as it stands in tallies, so the call
- * costs the same however many cars there are. On tables that are not sound it may be any number.
+ * How many cars are in a zone, of all teams: as many as unwadegiro_roster lists. The number is read as it stands in
+ * tallies, so the call costs the same however many cars there are. On tables that are not sound it may be any number.
  * Values, 1: how many cars are in the zone.
  * Refusals: 3, 4, 7.
  */
@@ -222,6 +231,18 @@ uint32_t unwadegiro_count(const uint32_t *head, size_t head_len, const uint32_t 
                           const uint32_t *starts, size_t starts_len, const uint32_t *entries, size_t entries_len,
                           const uint8_t *rosters, size_t rosters_len, const uint32_t *tallies, size_t tallies_len,
                           uint32_t zone, uint32_t *values, size_t values_len);
+
+/*
+ * How many cars of each team are in a zone, and which team holds it (see Teams above). The numbers are read as they stand
+ * in tallies, as the count is.
+ * Values, 9: how many cars of team 0, of team 1 and so on to team 7; the holder, 1 to 7, or 0 for nobody.
+ * Refusals: 3, 4, 7.
+ */
+uint32_t unwadegiro_holder(const uint32_t *head, size_t head_len, const uint32_t *zones, size_t zones_len,
+                           const uint32_t *cars, size_t cars_len, const float *spots, size_t spots_len,
+                           const uint32_t *starts, size_t starts_len, const uint32_t *entries, size_t entries_len,
+                           const uint8_t *rosters, size_t rosters_len, const uint32_t *tallies, size_t tallies_len,
+                           uint32_t zone, uint32_t *values, size_t values_len);
 
 /*
  * Where a car is. `position` gets x and y, as far as it goes: the bits that its last accepted report gave. On a refusal
@@ -236,8 +257,8 @@ uint32_t unwadegiro_where(const uint32_t *head, size_t head_len, const uint32_t 
                           uint32_t car, float *position, size_t position_len);
 
 /*
- * Whether the tables are sound: each zone and each position allowed, lists, rosters and tallies what zones and positions
- * give.
+ * Whether the tables are sound: each zone, each position and each team allowed, lists, rosters and tallies what zones and
+ * cars give.
  * Values, 1: 1 for yes, 0 for no.
  * Refusals: 3.
  */
@@ -289,7 +310,8 @@ uint32_t unwadegiro_cut(uint32_t k, uint32_t P, uint32_t Q, uint32_t a, uint32_t
  * than UNWADEGIRO_LOG_OUT. A record's own refusal stands in its answer.
  *
  * Between two calls the town may be looked at with the other calls. They want `starts` as long as the shape asks
- * (unwadegiro_lengths): lend the first of the log's, as unwadegiro_town_of_log does.
+ * (unwadegiro_lengths): lend the first of the log's, as unwadegiro_town_of_log does. A log names no teams: its P
+ * lines give every car team 0, and get 15 for a car that another call has placed with another.
  */
 #define UNWADEGIRO_LOG_HEAD 6u
 #define UNWADEGIRO_LOG_ZONES 64u
@@ -298,7 +320,7 @@ uint32_t unwadegiro_cut(uint32_t k, uint32_t P, uint32_t Q, uint32_t a, uint32_t
 #define UNWADEGIRO_LOG_STARTS 5462u
 #define UNWADEGIRO_LOG_ENTRIES 2048u
 #define UNWADEGIRO_LOG_ROSTERS 1024u
-#define UNWADEGIRO_LOG_TALLIES 16u
+#define UNWADEGIRO_LOG_TALLIES 160u
 #define UNWADEGIRO_LOG_HELD 82u
 #define UNWADEGIRO_LOG_OUT 768u
 
@@ -438,11 +460,11 @@ static inline uint32_t unwadegiro_town_remove(unwadegiro_town *town, uint32_t zo
     return unwadegiro_remove(UNWADEGIRO_LENT(town), zone);
 }
 
-static inline uint32_t unwadegiro_town_report(unwadegiro_town *town, uint32_t car, float x, float y, uint32_t *entered,
-                                              size_t entered_len, uint32_t *left, size_t left_len, uint32_t *values,
-                                              size_t values_len)
+static inline uint32_t unwadegiro_town_report(unwadegiro_town *town, uint32_t car, uint32_t team, float x, float y,
+                                              uint32_t *entered, size_t entered_len, uint32_t *left, size_t left_len,
+                                              uint32_t *values, size_t values_len)
 {
-    return unwadegiro_report(UNWADEGIRO_LENT(town), car, x, y, entered, entered_len, left, left_len, values,
+    return unwadegiro_report(UNWADEGIRO_LENT(town), car, team, x, y, entered, entered_len, left, left_len, values,
                              values_len);
 }
 
@@ -468,6 +490,12 @@ static inline uint32_t unwadegiro_town_count(const unwadegiro_town *town, uint32
                                              size_t values_len)
 {
     return unwadegiro_count(UNWADEGIRO_LENT(town), zone, values, values_len);
+}
+
+static inline uint32_t unwadegiro_town_holder(const unwadegiro_town *town, uint32_t zone, uint32_t *values,
+                                              size_t values_len)
+{
+    return unwadegiro_holder(UNWADEGIRO_LENT(town), zone, values, values_len);
 }
 
 static inline uint32_t unwadegiro_town_where(const unwadegiro_town *town, uint32_t car, float *position,

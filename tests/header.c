@@ -8,12 +8,12 @@
 
 #define SHAPE_AND_ROOM 2, 4, 4, 16, 63, 400
 
-static uint32_t head[6], zones[64], cars[63], starts[337], entries[400], tallies[16];
+static uint32_t head[6], zones[64], cars[63], starts[337], entries[400], tallies[160];
 static float spots[126];
 static uint8_t rosters[16 * 63];
 
 #define TABLES                                                                                                         \
-    head, 6, zones, 64, cars, 63, spots, 126, starts, 337, entries, 400, rosters, 16 * 63, tallies, 16
+    head, 6, zones, 64, cars, 63, spots, 126, starts, 337, entries, 400, rosters, 16 * 63, tallies, 160
 
 static uint32_t seed = 1;
 
@@ -44,13 +44,15 @@ static void same(const unwadegiro_town *town)
 /* One random call, made both ways. */
 static void turn(unwadegiro_town *town, uint32_t *seen)
 {
-    uint32_t a[64], b[64], c[64], d[64], v[4] = {9, 9, 9, 9}, w[4] = {9, 9, 9, 9}, r = 0, s = 0;
+    uint32_t a[64], b[64], c[64], d[64], v[10], w[10], r = 0, s = 0;
     uint32_t zone = below(17), car = below(65), n = below(4), kind = below(20);
+    uint32_t team = below(8) == 0 ? below(10) : car % 8;
     float p[2] = {9, 9}, q[2] = {9, 9}, x = (float)below(68) / 4, y = (float)below(68) / 4;
     uint32_t e = below(14), f = below(14), g = 1 + below(6), h = 1 + below(6);
     size_t room = below(8) == 0 ? 15 : 16, list = below(8) == 0 ? 62 : 63;
 
     memset(a, 7, sizeof a), memset(b, 7, sizeof b), memset(c, 7, sizeof c), memset(d, 7, sizeof d);
+    memset(v, 9, sizeof v), memset(w, 9, sizeof w);
     switch (kind) {
     case 0:
         e = below(3), n = below(40) == 0 ? 16 : 15 + 2 * below(2);
@@ -90,10 +92,16 @@ static void turn(unwadegiro_town *town, uint32_t *seen)
         s = unwadegiro_town_sound(town, w, n);
         must(r != 0 || n == 0 || v[0] == 1, "a sound town");
         break;
+    case 11:
+        n = below(11);
+        r = unwadegiro_holder(TABLES, zone, v, n);
+        s = unwadegiro_town_holder(town, zone, w, n);
+        break;
     default:
-        kind = 11;
-        r = unwadegiro_report(TABLES, car, x, y, a, room, c, room, v, n);
-        s = unwadegiro_town_report(town, car, x, y, b, room, d, room, w, n);
+        kind = 12;
+        r = unwadegiro_report(TABLES, car, team, x, y, a, room, c, room, v, n);
+        s = unwadegiro_town_report(town, car, team, x, y, b, room, d, room, w, n);
+        seen[13] += r == UNWADEGIRO_WRONG_TEAM;
     }
     must(r == s && memcmp(v, w, sizeof v) == 0 && memcmp(p, q, sizeof p) == 0, "answer");
     must(memcmp(a, b, sizeof a) == 0 && memcmp(c, d, sizeof c) == 0, "buffers");
@@ -104,15 +112,17 @@ static void turn(unwadegiro_town *town, uint32_t *seen)
 static void log_town(void)
 {
     static const char lines[] = "M\t2\t4\t4\nA\t1\t5\t2\t8\t12\nP\t7\t40B00000\t40400000\nR\t1";
+    static const char again[] = "P\t9\t40B00000\t40400000\n";
+    static const uint32_t standing[9] = {1, 0, 0, 1, 0, 0, 0, 0, 3};
     uint8_t held[UNWADEGIRO_LOG_HELD], out[UNWADEGIRO_LOG_OUT];
     unwadegiro_town log, town;
-    uint32_t v[1];
+    uint32_t v[9], came[16], went[16];
     size_t told[2], at;
     void *block;
 
     memset(held, 0, sizeof held);
     unwadegiro_town_log_lengths(&log);
-    must(log.head == NULL && log.tallies == NULL && log.tallies_len == 16, "a log's lengths");
+    must(log.head == NULL && log.tallies == NULL && log.tallies_len == 160, "a log's lengths");
     block = calloc(1, unwadegiro_town_bytes(&log));
     must(block != NULL, "memory");
     unwadegiro_town_place(&log, block);
@@ -124,10 +134,18 @@ static void log_town(void)
     must(unwadegiro_town_of_log(&town, &log) == 0 && town.starts_len == 337, "the open town");
     must(unwadegiro_town_count(&town, 1, v, 1) == 0 && v[0] == 1, "its count");
     must(unwadegiro_town_count(&town, 2, v, 1) == UNWADEGIRO_ZONE_STANDS_NOT && v[0] == 0, "no zone");
+    must(unwadegiro_town_report(&town, 7, 1, 5.5f, 3, came, 16, went, 16, v, 3) == UNWADEGIRO_WRONG_TEAM,
+         "a log's car has team 0");
+    must(unwadegiro_town_report(&town, 9, 3, 5.5f, 3, came, 16, went, 16, v, 3) == 0, "a car of team 3");
+    must(unwadegiro_town_holder(&town, 1, v, 9) == 0 && memcmp(v, standing, sizeof v) == 0, "its holder");
     must(unwadegiro_town_sound(&town, v, 1) == 0 && v[0] == 1, "it is sound");
     must(unwadegiro_town_count(&log, 1, v, 1) == UNWADEGIRO_BAD_TABLES, "the log's own lengths are not the town's");
-    must(unwadegiro_town_log_end(&log, held, sizeof held, out, sizeof out, told, 2) == 0 && told[1] == 8, "the end");
-    must(memcmp(out, "R\t0\t1\t7\n", 8) == 0, "the last answer");
+    must(unwadegiro_town_log_end(&log, held, sizeof held, out, sizeof out, told, 2) == 0 && told[1] == 10, "the end");
+    must(memcmp(out, "R\t0\t2\t7,9\n", 10) == 0, "the last answer");
+    must(unwadegiro_town_log(&log, (const uint8_t *)again, sizeof again - 1, held, sizeof held, out, sizeof out, told,
+                             2) == 0 &&
+             told[1] == 5 && memcmp(out, "P\t15\n", 5) == 0,
+         "a car that is not of team 0");
     log.head[0] = 0, log.head[1] = 256, log.head[2] = 256;
     must(unwadegiro_town_of_log(&town, &log) == UNWADEGIRO_BAD_TABLES, "more starts than there are");
     free(block);
@@ -136,13 +154,13 @@ static void log_town(void)
 int main(void)
 {
     unwadegiro_town town, other;
-    uint32_t seen[12] = {0}, i;
+    uint32_t seen[14] = {0}, i;
     void *block, *copy;
     size_t bytes;
 
     must(unwadegiro_town_lengths(&town, 6, 1, 1, 1, 1, 1) == 1 && unwadegiro_town_bytes(&town) == 0, "1");
     must(unwadegiro_town_lengths(&town, 0, 1, 1, 0, 1, 1) == 2 && town.head_len == 0, "2");
-    must(unwadegiro_town_lengths(&town, 5, 8, 8, 256, 1024, 16384) == 0 && unwadegiro_town_bytes(&town) == 694556,
+    must(unwadegiro_town_lengths(&town, 5, 8, 8, 256, 1024, 16384) == 0 && unwadegiro_town_bytes(&town) == 703772,
          "the largest");
     must(unwadegiro_town_lengths(&town, SHAPE_AND_ROOM) == 0, "lengths");
     bytes = unwadegiro_town_bytes(&town);
@@ -158,8 +176,8 @@ int main(void)
     same(&town);
     for (i = 0; i < 200000; i++)
         turn(&town, seen);
-    for (i = 0; i < 12; i++)
-        must(seen[i] > 0, "every call is accepted at some time");
+    for (i = 0; i < 14; i++)
+        must(seen[i] > 0, "every call is accepted at some time, and a report gets 15");
     /* a copy of the block is a town of its own */
     memcpy(copy, block, bytes);
     other = town;

@@ -79,7 +79,7 @@ impl Log {
             starts: vec![0; 5462],
             entries: vec![0; 2048],
             rosters: vec![0; 1024],
-            tallies: vec![0; 16],
+            tallies: vec![0; 160],
             held: vec![0; 82],
             out: vec![0; ROOM],
         }

@@ -35,7 +35,7 @@ table_calls! {
     unwadegiro_remove(const, mut, const, const, mut, mut, mut, mut; zone: u32);
     /// Places or moves a car. Three values: squares, entered, left.
     unwadegiro_report(const, const, mut, mut, const, const, mut, mut;
-        car: u32, x: f32, y: f32, entered: *mut u32, entered_len: usize, left: *mut u32, left_len: usize,
+        car: u32, team: u32, x: f32, y: f32, entered: *mut u32, entered_len: usize, left: *mut u32, left_len: usize,
         values: *mut u32, values_len: usize);
     /// Takes a car off the map. Two values: squares, left.
     unwadegiro_leave(const, const, mut, const, const, const, mut, mut;
@@ -48,6 +48,9 @@ table_calls! {
         zone: u32, inside: *mut u32, inside_len: usize, values: *mut u32, values_len: usize);
     /// How many cars are in a zone. One value.
     unwadegiro_count(const, const, const, const, const, const, const, const;
+        zone: u32, values: *mut u32, values_len: usize);
+    /// How many cars of each team are in a zone, and who holds it. Nine values: teams 0 to 7, holder.
+    unwadegiro_holder(const, const, const, const, const, const, const, const;
         zone: u32, values: *mut u32, values_len: usize);
     /// Where a car is: x and y.
     unwadegiro_where(const, const, const, const, const, const, const, const;

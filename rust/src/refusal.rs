@@ -20,11 +20,12 @@ pub enum Refusal {
     BufferTooShort = 11,
     NoRoom = 12,
     NoSuchSquare = 13,
+    WrongTeam = 15,
 }
 
 impl Refusal {
     /// All refusals, by rising number.
-    pub const ALL: [Refusal; 13] = [
+    pub const ALL: [Refusal; 14] = [
         Refusal::Shape,
         Refusal::Capacity,
         Refusal::Tables,
@@ -38,9 +39,10 @@ impl Refusal {
         Refusal::BufferTooShort,
         Refusal::NoRoom,
         Refusal::NoSuchSquare,
+        Refusal::WrongTeam,
     ];
 
-    /// The number in the documents, 1 to 13.
+    /// The number in the documents: 1 to 13, or 15. The 14 between them is a log's answer to what is no line.
     ///
     /// ```
     /// use unwadegiro::Refusal;
@@ -51,17 +53,16 @@ impl Refusal {
         self as u32
     }
 
-    /// The refusal with a number; none for 0 and above 13.
+    /// The refusal with a number; none for 0, 14 and above 15.
     pub fn from_number(number: u32) -> Option<Refusal> {
-        let at = (number as usize).checked_sub(1)?;
-        Refusal::ALL.get(at).copied()
+        Refusal::ALL.into_iter().find(|refusal| refusal.number() == number)
     }
 
     /// What a C function returned, as a result.
     pub(crate) fn check(returned: u32) -> Result<(), Refusal> {
         match returned {
             0 => Ok(()),
-            number => Err(Refusal::from_number(number).expect("a call returns 0 to 13")),
+            number => Err(Refusal::from_number(number).expect("a call returns 0 to 13 or 15")),
         }
     }
 }
@@ -82,6 +83,7 @@ impl fmt::Display for Refusal {
             Refusal::BufferTooShort => "the buffer is too short",
             Refusal::NoRoom => "the zone's squares do not fit into the entries that are free",
             Refusal::NoSuchSquare => "there is no such square",
+            Refusal::WrongTeam => "the team is above 7, or not the one that the car on the map has",
         })
     }
 }

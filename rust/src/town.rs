@@ -12,6 +12,36 @@ pub struct Position {
     pub y: f32,
 }
 
+/// A car's team: 1 to 7, or 0 for a spectator. Spectators are on rosters and counted, and hold no zone.
+///
+/// ```
+/// use unwadegiro::Team;
+/// assert_eq!(Team::new(3).map(Team::number), Some(3));
+/// assert_eq!(Team::new(0), Some(Team::SPECTATOR));
+/// assert_eq!(Team::new(8), None);
+/// ```
+#[derive(Clone, Copy, Debug, PartialEq, Eq, PartialOrd, Ord, Hash)]
+pub struct Team(u8);
+
+impl Team {
+    /// Team 0.
+    pub const SPECTATOR: Team = Team(0);
+
+    /// The team with a number; none above 7.
+    pub const fn new(number: u32) -> Option<Team> {
+        if number <= 7 {
+            Some(Team(number as u8))
+        } else {
+            None
+        }
+    }
+
+    /// Its number, 0 to 7.
+    pub const fn number(self) -> u32 {
+        self.0 as u32
+    }
+}
+
 /// How much a town has room for: 1 to 256 zones, 1 to 1,024 cars, 1 to 16,384 entries. An entry is one zone on one
 /// square's list.
 #[derive(Clone, Copy, Debug, PartialEq, Eq, Hash)]
@@ -59,22 +89,34 @@ pub struct Found<'a> {
     pub zones: &'a [u32],
 }
 
+/// How the teams stand in a zone.
+#[derive(Clone, Copy, Debug, PartialEq, Eq)]
+pub struct Standing {
+    /// How many cars of each team are inside, by the team's number: the spectators first.
+    pub cars: [u32; 8],
+    /// The team from 1 to 7 that has strictly more cars inside than each other of them; none where there is a tie, or no
+    /// car of theirs inside.
+    pub holder: Option<Team>,
+}
+
 /// A town: its zones, its cars, and which car is in which zone.
 ///
 /// It owns its tables and the buffers that lists are written into, all made by [`Town::open`]; no other call allocates.
 /// A list that a call gives lies in such a buffer until the next call.
 ///
 /// ```
-/// use unwadegiro::{Capacities, Position, Rectangle, Shape, Town};
+/// use unwadegiro::{Capacities, Position, Rectangle, Shape, Team, Town};
 ///
 /// let shape = Shape { k: 2, p: 4, q: 4 };
 /// let mut town = Town::open(shape, Capacities { zones: 16, cars: 64, entries: 2048 })?;
 /// assert_eq!(town.add(1, Rectangle { a: 5, b: 2, w: 8, h: 12 })?.squares, 36);
 ///
-/// let came = town.report(7, Position { x: 5.5, y: 3.0 })?;
+/// let red = Team::new(3).unwrap();
+/// let came = town.report(7, red, Position { x: 5.5, y: 3.0 })?;
 /// assert_eq!((came.squares, came.entered, came.left), (3, &[1][..], &[][..]));
 /// assert_eq!(town.roster(1)?, [7]);
 /// assert_eq!(town.count(1)?, 1);
+/// assert_eq!(town.holder(1)?.holder, Some(red));
 ///
 /// let gone = town.leave(7)?;
 /// assert_eq!(gone.left, [1]);
@@ -202,7 +244,7 @@ impl Town {
         Capacities { zones: self.head[3], cars: self.head[4], entries: self.head[5] }
     }
 
-    /// Adds a zone. Cars that stand in it are on its roster, and counted, at once. Refusals:
+    /// Adds a zone. Cars that stand in it are on its roster, and counted for their teams, at once. Refusals:
     /// [`Refusal::NoSuchZone`], [`Refusal::ZoneStands`], [`Refusal::Rectangle`], [`Refusal::NoRoom`].
     pub fn add(&mut self, zone: u32, r: Rectangle) -> Result<Added, Refusal> {
         let mut values = [0; 2];
@@ -251,19 +293,22 @@ impl Town {
         )
     }
 
-    /// Places or moves a car. Refusals: [`Refusal::NoSuchCar`], [`Refusal::PositionOffMap`].
+    /// Places or moves a car. On the map its team stays the same; a car that left may come back with another. Refusals:
+    /// [`Refusal::NoSuchCar`], [`Refusal::WrongTeam`], [`Refusal::PositionOffMap`].
     ///
     /// ```
-    /// # use unwadegiro::{Capacities, Position, Rectangle, Refusal, Shape, Town};
+    /// # use unwadegiro::{Capacities, Position, Rectangle, Refusal, Shape, Team, Town};
     /// # let room = Capacities { zones: 2, cars: 2, entries: 64 };
+    /// let (red, blue) = (Team::new(1).unwrap(), Team::new(2).unwrap());
     /// let mut town = Town::open(Shape { k: 2, p: 4, q: 4 }, room)?;
     /// town.add(0, Rectangle { a: 8, b: 8, w: 1, h: 1 })?;
-    /// assert_eq!(town.report(1, Position { x: 8.0, y: 8.0 })?.entered, [0]);
-    /// assert_eq!(town.report(1, Position { x: 9.0, y: 8.0 })?.left, [0]);
-    /// assert_eq!(town.report(1, Position { x: 16.5, y: 8.0 }), Err(Refusal::PositionOffMap));
+    /// assert_eq!(town.report(1, red, Position { x: 8.0, y: 8.0 })?.entered, [0]);
+    /// assert_eq!(town.report(1, red, Position { x: 9.0, y: 8.0 })?.left, [0]);
+    /// assert_eq!(town.report(1, blue, Position { x: 8.0, y: 8.0 }), Err(Refusal::WrongTeam));
+    /// assert_eq!(town.report(1, red, Position { x: 16.5, y: 8.0 }), Err(Refusal::PositionOffMap));
     /// # Ok::<(), Refusal>(())
     /// ```
-    pub fn report(&mut self, car: u32, at: Position) -> Result<Reported<'_>, Refusal> {
+    pub fn report(&mut self, car: u32, team: Team, at: Position) -> Result<Reported<'_>, Refusal> {
         let mut values = [0; 3];
         call!(
             unwadegiro_report,
@@ -279,6 +324,7 @@ impl Town {
                 tallies.as_mut_ptr
             ],
             car,
+            team.number(),
             at.x,
             at.y,
             self.came.as_mut_ptr(),
@@ -350,17 +396,17 @@ impl Town {
         Ok(&self.inside[..values[0] as usize])
     }
 
-    /// How many cars are in a zone: as many as [`Town::roster`] lists. The number is stored, so the call costs the same
-    /// however many cars there are. Refusals: [`Refusal::NoSuchZone`], [`Refusal::ZoneStandsNot`].
+    /// How many cars are in a zone, of all teams: as many as [`Town::roster`] lists. The number is stored, so the call costs
+    /// the same however many cars there are. Refusals: [`Refusal::NoSuchZone`], [`Refusal::ZoneStandsNot`].
     ///
     /// ```
-    /// # use unwadegiro::{Capacities, Position, Rectangle, Refusal, Shape, Town};
+    /// # use unwadegiro::{Capacities, Position, Rectangle, Refusal, Shape, Team, Town};
     /// # let room = Capacities { zones: 2, cars: 8, entries: 64 };
     /// let mut town = Town::open(Shape { k: 2, p: 4, q: 4 }, room)?;
-    /// town.report(3, Position { x: 8.5, y: 8.5 })?;
+    /// town.report(3, Team::SPECTATOR, Position { x: 8.5, y: 8.5 })?;
     /// town.add(0, Rectangle { a: 8, b: 8, w: 2, h: 2 })?;
     /// assert_eq!(town.count(0), Ok(1));
-    /// town.report(4, Position { x: 9.5, y: 9.5 })?;
+    /// town.report(4, Team::SPECTATOR, Position { x: 9.5, y: 9.5 })?;
     /// assert_eq!(town.count(0), Ok(2));
     /// town.leave(3)?;
     /// assert_eq!(town.count(0), Ok(1));
@@ -371,6 +417,32 @@ impl Town {
         let mut values = [0; 1];
         read!(unwadegiro_count, self, zone, values.as_mut_ptr(), values.len())?;
         Ok(values[0])
+    }
+
+    /// How many cars of each team are in a zone, and which team holds it. The numbers are stored, as the count is. Refusals:
+    /// [`Refusal::NoSuchZone`], [`Refusal::ZoneStandsNot`].
+    ///
+    /// ```
+    /// # use unwadegiro::{Capacities, Position, Rectangle, Refusal, Shape, Team, Town};
+    /// # let room = Capacities { zones: 2, cars: 8, entries: 64 };
+    /// let (red, blue) = (Team::new(1).unwrap(), Team::new(2).unwrap());
+    /// let mut town = Town::open(Shape { k: 2, p: 4, q: 4 }, room)?;
+    /// town.add(0, Rectangle { a: 8, b: 8, w: 2, h: 2 })?;
+    /// for (car, team) in [(3, Team::SPECTATOR), (4, red), (5, red), (6, blue)] {
+    ///     town.report(car, team, Position { x: 8.5, y: 8.5 })?;
+    /// }
+    /// let standing = town.holder(0)?;
+    /// assert_eq!(standing.cars, [1, 2, 1, 0, 0, 0, 0, 0]);
+    /// assert_eq!(standing.holder, Some(red));
+    /// town.leave(4)?;
+    /// assert_eq!(town.holder(0)?.holder, None);
+    /// # Ok::<(), Refusal>(())
+    /// ```
+    pub fn holder(&self, zone: u32) -> Result<Standing, Refusal> {
+        let mut values = [0; 9];
+        read!(unwadegiro_holder, self, zone, values.as_mut_ptr(), values.len())?;
+        let [cars @ .., holder] = values;
+        Ok(Standing { cars, holder: Team::new(holder).filter(|&team| team != Team::SPECTATOR) })
     }
 
     /// Where a car is: the position of its last accepted report. Refusals: [`Refusal::NoSuchCar`],

@@ -1,8 +1,11 @@
 // The documents' cases, through the safe calls.
-use unwadegiro::{cut, number, square, Capacities, Log, Position, Rectangle, Refusal, Shape, Square, Town, LEVEL};
+use unwadegiro::{cut, number, raw, square};
+use unwadegiro::{Capacities, Log, Position, Rectangle, Refusal, Shape, Square, Standing, Team, Town, LEVEL};
 
 const TOWN: Shape = Shape { k: 2, p: 4, q: 4 };
 const ROOM: Capacities = Capacities { zones: 16, cars: 64, entries: 2048 };
+/// The team of a car where the case asks for none.
+const ANY: Team = Team::SPECTATOR;
 
 fn at(x: f32, y: f32) -> Position {
     Position { x, y }
@@ -10,6 +13,17 @@ fn at(x: f32, y: f32) -> Position {
 
 fn rectangle(a: u32, b: u32, w: u32, h: u32) -> Rectangle {
     Rectangle { a, b, w, h }
+}
+
+fn team(number: u32) -> Team {
+    Team::new(number).unwrap()
+}
+
+/// How many cars of each team are in a zone, and the holder's number, 0 for nobody.
+fn standing(town: &Town, zone: u32) -> ([u32; 8], u32) {
+    let Standing { cars, holder } = town.holder(zone).unwrap();
+    assert_eq!(town.count(zone), Ok(cars.iter().sum()));
+    (cars, holder.map_or(0, Team::number))
 }
 
 #[test]
@@ -42,14 +56,15 @@ fn whole_case() {
     let mut town = Town::open(TOWN, ROOM).unwrap();
     let added = town.add(1, rectangle(5, 2, 8, 12)).unwrap();
     assert_eq!((added.squares, added.cars), (36, 0));
-    let came = town.report(7, at(5.5, 3.0)).unwrap();
+    let came = town.report(7, team(3), at(5.5, 3.0)).unwrap();
     assert_eq!((came.squares, came.entered, came.left), (3, &[1][..], &[][..]));
-    let moved = town.report(7, at(10.0, 11.0)).unwrap();
+    let moved = town.report(7, team(3), at(10.0, 11.0)).unwrap();
     assert_eq!((moved.squares, moved.entered, moved.left), (6, &[][..], &[][..]));
     assert_eq!(town.where_is(7), Ok(at(10.0, 11.0)));
     assert_eq!(town.search(at(10.0, 11.0)).unwrap().zones, [1]);
     assert_eq!(town.roster(1).unwrap(), [7]);
     assert_eq!(town.count(1), Ok(1));
+    assert_eq!(standing(&town, 1), ([0, 0, 0, 1, 0, 0, 0, 0], 3));
     assert_eq!(town.add(1, rectangle(0, 0, 1, 1)), Err(Refusal::ZoneStands));
     let gone = town.leave(7).unwrap();
     assert_eq!((gone.squares, gone.left), (3, &[1][..]));
@@ -65,20 +80,20 @@ fn head_counts() {
     assert_eq!(town.count(16), Err(Refusal::NoSuchZone));
     assert_eq!(town.count(u32::MAX), Err(Refusal::NoSuchZone));
     for car in 0..5 {
-        town.report(car, at(car as f32, 0.5)).unwrap();
+        town.report(car, ANY, at(car as f32, 0.5)).unwrap();
     }
     // cars that stand in a new zone are counted
     assert_eq!(town.add(0, rectangle(0, 0, 4, 1)).unwrap().cars, 4);
     town.add(1, rectangle(3, 0, 2, 2)).unwrap();
     assert_eq!([0, 1].map(|zone| town.count(zone)), [Ok(4), Ok(2)]);
     // within zone 0, from zone 0 to zone 1, out of both; a refused report
-    town.report(0, at(1.5, 0.0)).unwrap();
+    town.report(0, ANY, at(1.5, 0.0)).unwrap();
     assert_eq!([0, 1].map(|zone| town.count(zone)), [Ok(4), Ok(2)]);
-    town.report(0, at(4.0, 1.0)).unwrap();
+    town.report(0, ANY, at(4.0, 1.0)).unwrap();
     assert_eq!([0, 1].map(|zone| town.count(zone)), [Ok(3), Ok(3)]);
-    town.report(3, at(9.0, 9.0)).unwrap();
+    town.report(3, ANY, at(9.0, 9.0)).unwrap();
     assert_eq!([0, 1].map(|zone| town.count(zone)), [Ok(2), Ok(2)]);
-    assert_eq!(town.report(4, at(16.5, 0.0)), Err(Refusal::PositionOffMap));
+    assert_eq!(town.report(4, ANY, at(16.5, 0.0)), Err(Refusal::PositionOffMap));
     assert_eq!([0, 1].map(|zone| town.count(zone)), [Ok(2), Ok(2)]);
     town.leave(4).unwrap();
     assert_eq!([0, 1].map(|zone| town.count(zone)), [Ok(2), Ok(1)]);
@@ -94,13 +109,162 @@ fn head_counts() {
 }
 
 #[test]
+fn ties_and_a_crowd() {
+    let mut town = Town::open(TOWN, ROOM).unwrap();
+    assert_eq!(town.holder(0), Err(Refusal::ZoneStandsNot));
+    assert_eq!(town.holder(16), Err(Refusal::NoSuchZone));
+    assert_eq!(town.holder(u32::MAX), Err(Refusal::NoSuchZone));
+    town.add(0, rectangle(0, 0, 4, 4)).unwrap();
+    assert_eq!(standing(&town, 0), ([0; 8], 0));
+    // spectators hold nothing, and one car holds against a crowd of them
+    for car in 0..5 {
+        town.report(car, team(0), at(0.5, 0.5)).unwrap();
+    }
+    assert_eq!(standing(&town, 0), ([5, 0, 0, 0, 0, 0, 0, 0], 0));
+    town.report(10, team(7), at(3.5, 3.5)).unwrap();
+    assert_eq!(standing(&town, 0), ([5, 0, 0, 0, 0, 0, 0, 1], 7));
+    // two teams with the most are nobody, whatever a third has
+    town.report(11, team(1), at(1.0, 1.0)).unwrap();
+    assert_eq!(standing(&town, 0), ([5, 1, 0, 0, 0, 0, 0, 1], 0));
+    town.report(12, team(1), at(1.0, 1.0)).unwrap();
+    assert_eq!(standing(&town, 0), ([5, 2, 0, 0, 0, 0, 0, 1], 1));
+    town.report(13, team(7), at(1.0, 1.0)).unwrap();
+    town.report(14, team(4), at(1.0, 1.0)).unwrap();
+    assert_eq!(standing(&town, 0), ([5, 2, 0, 0, 1, 0, 0, 2], 0));
+    // a tie behind the first team is none
+    town.report(15, team(4), at(1.0, 1.0)).unwrap();
+    town.report(16, team(7), at(1.0, 1.0)).unwrap();
+    assert_eq!(standing(&town, 0), ([5, 2, 0, 0, 2, 0, 0, 3], 7));
+    assert!(town.is_sound());
+}
+
+#[test]
+fn a_lead_lost_by_one() {
+    let mut town = Town::open(TOWN, ROOM).unwrap();
+    town.add(0, rectangle(0, 0, 4, 4)).unwrap();
+    town.add(1, rectangle(3, 0, 4, 4)).unwrap();
+    for (car, number, x) in [(0, 2, 0.0), (1, 2, 3.0), (2, 5, 3.0), (3, 5, 6.0)] {
+        town.report(car, team(number), at(x, 0.0)).unwrap();
+    }
+    assert_eq!([0, 1].map(|zone| standing(&town, zone).1), [2, 5]);
+    // from one to two: the first loses its holder by a tie, the second as well
+    town.report(0, team(2), at(4.0, 0.0)).unwrap();
+    assert_eq!(standing(&town, 0), ([0, 0, 1, 0, 0, 1, 0, 0], 0));
+    assert_eq!(standing(&town, 1), ([0, 0, 2, 0, 0, 2, 0, 0], 0));
+    // one leave breaks the tie, another makes it again
+    town.leave(2).unwrap();
+    assert_eq!([0, 1].map(|zone| standing(&town, zone).1), [2, 2]);
+    town.leave(1).unwrap();
+    assert_eq!(standing(&town, 0), ([0; 8], 0));
+    assert_eq!(standing(&town, 1), ([0, 0, 1, 0, 0, 1, 0, 0], 0));
+    assert!(town.is_sound());
+}
+
+#[test]
+fn a_zone_over_cars_of_several_teams() {
+    let mut town = Town::open(TOWN, ROOM).unwrap();
+    for car in 0..16 {
+        town.report(car, team(car % 8), at(car as f32, 0.5)).unwrap();
+    }
+    assert_eq!(town.add(0, rectangle(0, 0, 9, 1)).unwrap().cars, 9);
+    assert_eq!(standing(&town, 0), ([2, 1, 1, 1, 1, 1, 1, 1], 0));
+    assert_eq!(town.add(1, rectangle(1, 0, 9, 2)).unwrap().cars, 9);
+    assert_eq!(standing(&town, 1), ([1, 2, 1, 1, 1, 1, 1, 1], 1));
+    assert_eq!(town.add(2, rectangle(0, 1, 16, 15)).unwrap().cars, 0);
+    assert_eq!(standing(&town, 2), ([0; 8], 0));
+    // a removed zone has no holder, and begins anew
+    town.remove(1).unwrap();
+    assert_eq!(town.holder(1), Err(Refusal::ZoneStandsNot));
+    town.add(1, rectangle(5, 0, 1, 1)).unwrap();
+    assert_eq!(standing(&town, 1), ([0, 0, 0, 0, 0, 1, 0, 0], 5));
+    assert!(town.is_sound());
+    town.clear();
+    town.add(1, rectangle(0, 0, 16, 16)).unwrap();
+    assert_eq!(standing(&town, 1), ([0; 8], 0));
+}
+
+#[test]
+fn a_team_stays_on_the_map() {
+    let mut town = Town::open(TOWN, ROOM).unwrap();
+    town.add(0, rectangle(0, 0, 4, 4)).unwrap();
+    town.report(7, team(3), at(1.0, 1.0)).unwrap();
+    for number in (0..8).filter(|&number| number != 3) {
+        assert_eq!(town.report(7, team(number), at(9.0, 9.0)), Err(Refusal::WrongTeam));
+    }
+    // it is asked after the car and before the position
+    assert_eq!(town.report(64, team(1), at(16.5, 9.0)), Err(Refusal::NoSuchCar));
+    assert_eq!(town.report(7, team(1), at(16.5, 9.0)), Err(Refusal::WrongTeam));
+    assert_eq!(town.report(7, team(3), at(16.5, 9.0)), Err(Refusal::PositionOffMap));
+    assert_eq!(town.where_is(7), Ok(at(1.0, 1.0)));
+    assert_eq!(standing(&town, 0), ([0, 0, 0, 1, 0, 0, 0, 0], 3));
+    // off the map a car has no team
+    town.leave(7).unwrap();
+    assert_eq!(town.report(7, team(6), at(2.0, 2.0)).unwrap().entered, [0]);
+    assert_eq!(standing(&town, 0), ([0, 0, 0, 0, 0, 0, 1, 0], 6));
+    assert_eq!(town.report(7, team(3), at(2.0, 2.0)), Err(Refusal::WrongTeam));
+    assert!(town.is_sound());
+}
+
+#[test]
+fn teams_above_seven() {
+    // one cell with a zone and a car
+    let (mut head, mut zones, mut cars, mut spots) = ([0; 6], [0; 4], [0; 1], [0.0; 2]);
+    let (mut starts, mut entries, mut rosters, mut tallies) = ([0; 2], [0; 1], [0; 1], [0; 10]);
+    /// Makes a call with all tables.
+    macro_rules! call {
+        ($call:ident $(, $rest:expr)*) => {
+            // SAFETY: each pointer is of an array of its own and comes with its length.
+            unsafe {
+                raw::$call(
+                    head.as_mut_ptr(), 6, zones.as_mut_ptr(), 4, cars.as_mut_ptr(), 1, spots.as_mut_ptr(), 2,
+                    starts.as_mut_ptr(), 2, entries.as_mut_ptr(), 1, rosters.as_mut_ptr(), 1,
+                    tallies.as_mut_ptr(), 10 $(, $rest)*
+                )
+            }
+        };
+    }
+    let (mut came, mut went, mut values) = ([0; 1], [0; 1], [0; 3]);
+    /// Reports the car in its cell with any team.
+    macro_rules! report {
+        ($team:expr) => {{
+            let [came, went, values] = [came.as_mut_ptr(), went.as_mut_ptr(), values.as_mut_ptr()];
+            call!(unwadegiro_report, 0, $team, 0.5, 0.5, came, 1, went, 1, values, 3)
+        }};
+    }
+    /// Whether the tables are sound.
+    macro_rules! sound {
+        () => {
+            call!(unwadegiro_sound, values.as_mut_ptr(), 1) == 0 && values[0] == 1
+        };
+    }
+    assert_eq!(call!(unwadegiro_open, 0, 1, 1, 1, 1, 1), 0);
+    assert_eq!(call!(unwadegiro_add, 0, 0, 0, 1, 1, values.as_mut_ptr(), 2), 0);
+    for number in [8, 9, 256, 263, u32::MAX] {
+        values.fill(9);
+        assert_eq!(report!(number), Refusal::WrongTeam.number());
+        assert_eq!((values, cars, tallies), ([0; 3], [0], [0; 10]));
+    }
+    assert_eq!(report!(7), 0);
+    assert_eq!((cars, tallies), ([8], [1, 0, 0, 0, 0, 0, 0, 0, 1, 7]));
+    assert_eq!(report!(8), Refusal::WrongTeam.number());
+    assert!(sound!());
+    // a stored team above 7 is not sound, and is refused whatever a report names
+    cars[0] = 9;
+    assert!(!sound!());
+    for number in [0, 7, 8, 9] {
+        assert_eq!(report!(number), Refusal::WrongTeam.number());
+    }
+    assert_eq!(cars, [9]);
+}
+
+#[test]
 fn squares_looked_into() {
     let mut town = Town::open(TOWN, ROOM).unwrap();
-    town.report(0, at(8.0, 8.0)).unwrap();
-    assert_eq!(town.report(0, at(9.0, 8.0)).unwrap().squares, 2);
-    assert_eq!(town.report(0, at(9.5, 8.5)).unwrap().squares, 0);
-    town.report(1, at(1.0, 1.0)).unwrap();
-    assert_eq!(town.report(1, at(5.0, 1.0)).unwrap().squares, 6);
+    town.report(0, ANY, at(8.0, 8.0)).unwrap();
+    assert_eq!(town.report(0, ANY, at(9.0, 8.0)).unwrap().squares, 2);
+    assert_eq!(town.report(0, ANY, at(9.5, 8.5)).unwrap().squares, 0);
+    town.report(1, ANY, at(1.0, 1.0)).unwrap();
+    assert_eq!(town.report(1, ANY, at(5.0, 1.0)).unwrap().squares, 6);
 }
 
 #[test]
@@ -121,12 +285,13 @@ fn positions_at_the_edge() {
 
 #[test]
 fn refusals_have_their_numbers() {
-    for (at, refusal) in Refusal::ALL.into_iter().enumerate() {
-        assert_eq!(refusal.number() as usize, at + 1);
-        assert_eq!(Refusal::from_number(refusal.number()), Some(refusal));
+    for (number, refusal) in (1..=13).chain([15]).zip(Refusal::ALL) {
+        assert_eq!(refusal.number(), number);
+        assert_eq!(Refusal::from_number(number), Some(refusal));
     }
-    assert_eq!(Refusal::from_number(0), None);
-    assert_eq!(Refusal::from_number(14), None);
+    for number in [0, 14, 16, u32::MAX] {
+        assert_eq!(Refusal::from_number(number), None);
+    }
 }
 
 #[test]
@@ -156,16 +321,16 @@ fn log_without_its_last_feed() {
 fn west_wall() {
     let mut town = Town::open(TOWN, ROOM).unwrap();
     town.add(0, rectangle(0, 0, 1, 16)).unwrap();
-    assert_eq!(town.report(4, at(-0.0, 3.0)).unwrap().entered, [0]);
+    assert_eq!(town.report(4, ANY, at(-0.0, 3.0)).unwrap().entered, [0]);
     assert_eq!(town.where_is(4).unwrap().x.to_bits(), 0x8000_0000);
     assert_eq!(town.search(at(3.0, -0.0)).unwrap().zones, []);
-    assert_eq!(town.report(4, at(0.0, 3.0)).unwrap().squares, 0);
+    assert_eq!(town.report(4, ANY, at(0.0, 3.0)).unwrap().squares, 0);
     assert_eq!(town.where_is(4).unwrap().x.to_bits(), 0);
     for below in [f32::from_bits(0x8000_0001), -1.0, f32::NEG_INFINITY, f32::NAN, -f32::NAN] {
-        assert_eq!(town.report(4, at(below, 3.0)), Err(Refusal::PositionOffMap));
+        assert_eq!(town.report(4, ANY, at(below, 3.0)), Err(Refusal::PositionOffMap));
         assert_eq!(town.search(at(3.0, below)), Err(Refusal::PositionOffMap));
     }
-    town.report(4, at(-0.0, -0.0)).unwrap();
+    town.report(4, ANY, at(-0.0, -0.0)).unwrap();
     town.add(1, rectangle(0, 0, 2, 2)).unwrap();
     assert_eq!(town.roster(1).unwrap(), [4]);
     assert!(town.is_sound());
@@ -179,21 +344,21 @@ fn east_wall() {
     let next = |wall: f32| f32::from_bits(wall.to_bits() + 1);
     town.add(0, rectangle(11, 0, 1, 8)).unwrap();
     town.add(1, rectangle(0, 0, 11, 8)).unwrap();
-    town.report(4, at(10.0, 3.0)).unwrap();
-    let reported = town.report(4, at(12.0, 3.0)).unwrap();
+    town.report(4, ANY, at(10.0, 3.0)).unwrap();
+    let reported = town.report(4, ANY, at(12.0, 3.0)).unwrap();
     assert_eq!((reported.squares, reported.entered, reported.left), (2, &[0][..], &[1][..]));
     assert_eq!(town.where_is(4).unwrap().x.to_bits(), 0x4140_0000);
-    assert_eq!(town.report(4, at(11.5, 3.0)).unwrap().squares, 0);
-    assert_eq!(town.report(4, at(12.0, 3.0)).unwrap().squares, 0);
+    assert_eq!(town.report(4, ANY, at(11.5, 3.0)).unwrap().squares, 0);
+    assert_eq!(town.report(4, ANY, at(12.0, 3.0)).unwrap().squares, 0);
     // W for y is past H, and the other way round it is within
     for (x, y) in [(next(12.0), 3.0), (3.0, next(8.0)), (3.0, 12.0), (16.0, 3.0), (f32::INFINITY, 3.0)] {
-        assert_eq!(town.report(4, at(x, y)), Err(Refusal::PositionOffMap));
+        assert_eq!(town.report(4, ANY, at(x, y)), Err(Refusal::PositionOffMap));
         assert_eq!(town.search(at(x, y)), Err(Refusal::PositionOffMap));
     }
     assert_eq!(town.search(at(8.0, 8.0)).unwrap().zones, [1]);
     assert_eq!(town.search(at(12.0, 8.0)).unwrap().zones, [0]);
     // a zone that ends at the walls has the car in their corner, one that ends a cell before them has not
-    town.report(4, at(12.0, 8.0)).unwrap();
+    town.report(4, ANY, at(12.0, 8.0)).unwrap();
     assert_eq!(town.add(2, rectangle(8, 4, 4, 4)).unwrap().cars, 1);
     assert_eq!(town.add(3, rectangle(8, 4, 3, 4)).unwrap().cars, 0);
     assert_eq!(town.add(5, rectangle(8, 4, 4, 3)).unwrap().cars, 0);

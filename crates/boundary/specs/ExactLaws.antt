@@ -10,7 +10,7 @@ use lib.Dec.{leb}
 use lib.ListN.{length, getD, drop, replicate}
 use lib.Seq.{sets}
 use borrow.Author.Tests.{leb-true, ltb-true}
-use Rattle.order.specs.Order.{upto, keep}
+use Rattle.order.specs.Order.{upto, span, keep}
 use Rattle.order.specs.KeepLaws.{length-keep, length-span}
 use Rattle.order.specs.TestLaws.{and→}
 use Rattle.squares.specs.declared.shape.Shape.{Shape}
@@ -28,8 +28,9 @@ use Rattle.position.specs.declared.Position.{Position}
 use Rattle.position.specs.Answer.{columnOf, rowOf}
 use Rattle.model.specs.declared.answers.SoundnessOf.{SoundnessOf}
 use Rattle.model.specs.Answers.{Values, soundnessIs}
-use Rattle.model.specs.Model.{looked, spotted, Call, opening, adding, removing, reporting, leaving, searching, askRoster, askCount, askWhere, askSoundness, Event, meaning}
-use Rattle.tables.specs.Tables.{Tables, shapeOf, zoneRoom, carRoom, carIn}
+use Rattle.model.specs.TeamLaws.{lead-small}
+use Rattle.model.specs.Model.{Car, holdsCar, roster, drivesFor, squad, standing, looked, spotted, Call, opening, adding, removing, reporting, leaving, searching, askRoster, askCount, askHolder, askWhere, askSoundness, Event, meaning}
+use Rattle.tables.specs.Tables.{Tables, shapeOf, zoneRoom, carRoom, carIn, townOf}
 use Rattle.tables.specs.CheckLaws.{roomy→, size-of}
 use Rattle.tables.specs.Sound.{Sound}
 use Rattle.tables.specs.Lent.{both}
@@ -79,11 +80,19 @@ module _ {t : Tables} (s : Sound t) where
   levels-few : shapeOf t .k + 1 < 4294967296
   levels-few = omega (arith, size-of s .shape .levels)
 
-  looked-few : (q : Option Position) (p : Position) → looked (shapeOf t) q p < 4294967296
+  looked-few : (q : Option Car) (p : Position) → looked (shapeOf t) q p < 4294967296
   looked-few none p = levels-few
-  looked-few (some q) p =
+  looked-few (some a) p =
       let u = shapeOf t in
-      omega (arith, length-keep (differAt u (columnOf u q) (rowOf u q) (columnOf u p) (rowOf u p)) (upto (u .k + 1)), length-span 0 (u .k + 1), size-of s .shape .levels)
+      omega (arith, length-keep (differAt u (columnOf u (a .position)) (rowOf u (a .position)) (columnOf u p) (rowOf u p)) (upto (u .k + 1)), length-span 0 (u .k + 1), size-of s .shape .levels)
+
+  -- no team has more cars than there are
+  standing-few : (z : ℕ) → Small (standing (townOf t) z)
+  unfolding span
+  standing-few z = (team 0, (team 1, (team 2, (team 3, (team 4, (team 5, (team 6, (team 7, (omega (arith, lead-small (squad (townOf t) z)), tt)))))))))
+    where
+      team : (g : ℕ) → squad (townOf t) z g < 4294967296
+      team g = omega (arith, length-keep (drivesFor (townOf t) g) (roster (townOf t) z), cars-few (holdsCar (townOf t) z))
 
 cut-few : (s : Shape) (r : Rect) → Allowed s → length (cut s r) < 4294967296
 cut-few s r h = omega (arith, count-few s r (length (cut s r)) h refl .few)
@@ -94,14 +103,15 @@ unfolding meaning
 gives-small t (opening o) sound h = tt
 gives-small t (adding z r) sound h = (cut-few (shapeOf t) r (size-of h .shape), (cars-few h _, tt))
 gives-small t (removing z) sound h = tt
-gives-small t (reporting c p entered left) sound h = (looked-few h (carIn t c) p, (zones-few h _, (zones-few h _, tt)))
+gives-small t (reporting c g p entered left) sound h = (looked-few h (carIn t c) p, (zones-few h _, (zones-few h _, tt)))
 gives-small t (leaving c left) sound h = (levels-few h, (zones-few h _, tt))
 gives-small t (searching p found) sound h = (levels-few h, (zones-few h _, tt))
 gives-small t (askRoster z inside) sound h = (cars-few h _, tt)
 gives-small t (askCount z) sound h = (cars-few h _, tt)
+gives-small t (askHolder z) sound h = standing-few h z
 gives-small t (askWhere c) sound h = go (carIn t c)
   where
-    go : (p : Option Position) → Small (numbersOf (spotted p))
+    go : (p : Option Car) → Small (numbersOf (spotted p))
     go none = tt
     go (some p) = tt
 gives-small t askSoundness true h = (omega arith, tt)

@@ -1,12 +1,13 @@
-// Search, roster, count, where a car is, and soundness.
+// Search, roster, count, holder, where a car is, and soundness.
 use position::Position;
 use values::tell_count;
+use values::tell_holder;
 use values::tell_roster;
 use values::tell_searched;
 use values::tell_soundness;
 use values::tell_where;
 ghost use Rattle.tables.specs.Lent.{lent};
-ghost use Rattle.promises.specs.Events.{searched, rosterTold, countTold, soundnessTold};
+ghost use Rattle.promises.specs.Events.{searched, rosterTold, countTold, holderTold, soundnessTold};
 ghost use Rattle.boundary.specs.Promises.{point, Relays, Pointed};
 
 // Two values: the squares looked into, the zones found.
@@ -103,6 +104,36 @@ pub extern "C" fn unwadegiro_count(
         zone,
     );
     tell_count(count, values)
+}
+
+// Nine values: the cars of each team in the zone, from team 0 on, and the holder.
+#[no_mangle]
+pub extern "C" fn unwadegiro_holder(
+    head: &[u32],
+    zones: &[u32],
+    cars: &[u32],
+    spots: &[f32],
+    starts: &[u32],
+    entries: &[u32],
+    rosters: &[u8],
+    tallies: &[u32],
+    zone: u32,
+    values: &mut [u32],
+) -> u32
+    ensures { λ r'. ⌜ Relays 9 (lent head zones cars spots starts entries rosters tallies) (holderTold zone) (now (values .entry)) (now (values .exit)) r' ⌝ }
+{
+    let holder = readings::holder_of_zone(
+        head,
+        zones,
+        cars,
+        spots,
+        starts,
+        entries,
+        rosters,
+        tallies,
+        zone,
+    );
+    tell_holder(holder, values)
 }
 
 // The position's two coordinates; 0 and 0 on a refusal.

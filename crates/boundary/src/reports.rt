@@ -18,13 +18,14 @@ pub extern "C" fn unwadegiro_report(
     rosters: &mut [u8],
     tallies: &mut [u32],
     car: u32,
+    team: u32,
     x: f32,
     y: f32,
     entered: &mut [u32],
     left: &mut [u32],
     values: &mut [u32],
 ) -> u32
-    ensures { λ r'. ⌜ Relays 3 (lent head zones cars spots starts entries rosters tallies) (reported car (point x y) entered left) (now (values .entry)) (now (values .exit)) r' ⌝ }
+    ensures { λ r'. ⌜ Relays 3 (lent head zones cars spots starts entries rosters tallies) (reported car team (point x y) entered left) (now (values .entry)) (now (values .exit)) r' ⌝ }
 {
     let p = Position { x, y };
     let reported = cars::report_car(
@@ -37,6 +38,7 @@ pub extern "C" fn unwadegiro_report(
         rosters,
         tallies,
         car,
+        team,
         p,
         entered,
         left,

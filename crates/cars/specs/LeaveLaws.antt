@@ -24,6 +24,7 @@ use Rattle.tables.specs.Tables.{Tables, tables, shapeOf, zoneRoom, carRoom, pla
 use Rattle.tables.specs.Sizes.{Sized}
 use Rattle.tables.specs.CheckLaws.{sized→}
 use Rattle.tables.specs.RecordLaws.{placed-known, car-in}
+use Rattle.tables.specs.Slots.{slotIn}
 use Rattle.tables.specs.Sound.{Sound}
 use Rattle.tables.specs.Steps.{step}
 use Rattle.tables.specs.Lent.{both}
@@ -77,13 +78,13 @@ module _ {t : Tables} {c : ℕ} {b : List ℕ} (ok : Leavable t c b) {s : Shape}
           let k = rw (shape, ← stood .1, ← stood .2) at h in
           rw (car-in t c (ok .on-map)) (front-is (k .found) (looked-holds sound (columnOf (shapeOf t) old) (rowOf (shapeOf t) old) (column-below (shapeOf t) old (ok .size .shape)) (row-below (shapeOf t) old (ok .size .shape)) (length b) (ok .enough)))
 
-      module _ {cars′ rosters′ tallies′ : List ℕ} {many : ℕ} (room : many ≡ carRoom t) (car : cars′ ≡ set (t .records .cars) c 0) (gone : rosters′ ≡ stamped (t .derived .rosters) (take (r .zones) b′) many c 0) (fewer : tallies′ ≡ moved (t .derived .tallies) (take (r .zones) b′) 4294967295) where
+      module _ {cars′ rosters′ tallies′ : List ℕ} {many : ℕ} (room : many ≡ carRoom t) (car : cars′ ≡ set (t .records .cars) c 0) (gone : rosters′ ≡ stamped (t .derived .rosters) (take (r .zones) b′) many c 0) {g : ℕ} (team : g ≡ slotIn (t .records .cars) c) (fewer : tallies′ ≡ moved (t .derived .tallies) (take (r .zones) b′) g 4294967295) where
         abbrev after : Tables
         after = tables (t .records .head) (t .records .zones) cars′ (t .records .spots) (t .derived .starts) (t .derived .entries) rosters′ tallies′
 
         steps : Sound t → after ≡ step (carOff c) t
         unfolding rosterHas
-        steps sound = rw (car, gone, fewer, room) (departed-is t sound c (ok .car) (take (r .zones) b′) (front-shown (found sound)))
+        steps sound = rw (car, gone, fewer, room, team) (departed-is t sound c (ok .car) (ok .on-map) (take (r .zones) b′) (front-shown (found sound)))
 
         pub leave-kept : Keeps (both t after) (event (leaving c b) (b′ ∷ []) (leftIs (Left.Done (r .squares) (r .zones))))
         unfolding meaning first

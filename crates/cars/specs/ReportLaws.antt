@@ -30,7 +30,7 @@ use Rattle.lookup.specs.SpotLaws.{look-asks}
 use Rattle.cars.specs.Admits.{Reportable}
 use Rattle.cars.specs.SeeLaws.{Moves, sees-sound}
 
-module _ {t : Tables} {c : ℕ} {p : Position} {x y : ℕ} {e l : List ℕ} (ok : Reportable t c p x y e l) where
+module _ {t : Tables} {c g : ℕ} {p : Position} {x y : ℕ} {e l : List ℕ} (ok : Reportable t c g p x y e l) where
   -- the car's record and its position are there
   pub car-there : c < length (t .records .cars)
   car-there = omega (arith, ok .car, ok .size .lengths .cars)
@@ -46,17 +46,17 @@ module _ {t : Tables} {c : ℕ} {p : Position} {x y : ℕ} {e l : List ℕ} (ok 
       moves : Sound t → Moves t c p e e′ l l′ r
       moves sound = sees-sound sound c p e l (ok .room-in) (ok .room-out) (rw (shape, ← ok .column, ← ok .row) at h)
 
-      module _ {cars′ rosters′ rosters″ tallies′ tallies″ : List ℕ} {spots′ : List Float} {many : ℕ} (room : many ≡ carRoom t) (came : rosters′ ≡ stamped (t .derived .rosters) (take (r .entered) e′) many c 1) (gone : rosters″ ≡ stamped rosters′ (take (r .left) l′) many c 0) (more : tallies′ ≡ moved (t .derived .tallies) (take (r .entered) e′) 1) (fewer : tallies″ ≡ moved tallies′ (take (r .left) l′) 4294967295) (spot : spots′ ≡ withSpot (t .records .spots) c p) (car : cars′ ≡ set (t .records .cars) c 1) where
+      module _ {cars′ rosters′ rosters″ tallies′ tallies″ : List ℕ} {spots′ : List Float} {many : ℕ} (room : many ≡ carRoom t) (came : rosters′ ≡ stamped (t .derived .rosters) (take (r .entered) e′) many c 1) (gone : rosters″ ≡ stamped rosters′ (take (r .left) l′) many c 0) (more : tallies′ ≡ moved (t .derived .tallies) (take (r .entered) e′) g 1) (fewer : tallies″ ≡ moved tallies′ (take (r .left) l′) g 4294967295) (spot : spots′ ≡ withSpot (t .records .spots) c p) (car : cars′ ≡ set (t .records .cars) c (g + 1)) where
         abbrev after : Tables
         after = tables (t .records .head) (t .records .zones) cars′ spots′ (t .derived .starts) (t .derived .entries) rosters″ tallies″
 
-        steps : (sound : Sound t) → Moves t c p e e′ l l′ r → after ≡ step (carAt c p) t
+        steps : (sound : Sound t) → Moves t c p e e′ l l′ r → after ≡ step (carAt c (record { position = p; team = g })) t
         unfolding zoneHolds rosterHas
-        steps sound k = rw (car, spot, gone, came, fewer, more, room) (reported-is t sound c (ok .car) p (take (r .entered) e′) (take (r .left) l′) (front-shown (k .came)) (front-shown (k .gone)))
+        steps sound k = rw (car, spot, gone, came, fewer, more, room) (reported-is t sound c (ok .car) (record { position = p; team = g }) (ok .team) (take (r .entered) e′) (take (r .left) l′) (front-shown (k .came)) (front-shown (k .gone)))
 
-        pub report-kept : Keeps (both t after) (event (reporting c p e l) (e′ ∷ l′ ∷ []) (reportedIs (Reported.Done (r .squares) (r .entered) (r .left))))
+        pub report-kept : Keeps (both t after) (event (reporting c g p e l) (e′ ∷ l′ ∷ []) (reportedIs (Reported.Done (r .squares) (r .entered) (r .left))))
         unfolding meaning first
-        report-kept = keeps-done t (reporting c p e l) _ after (numbers (r .squares ∷ r .entered ∷ r .left ∷ [])) (ok .none) refl
+        report-kept = keeps-done t (reporting c g p e l) _ after (numbers (r .squares ∷ r .entered ∷ r .left ∷ [])) (ok .none) refl
             (λ any sound.
             let k = moves sound in
             (refl, (rw (k .looks, k .came .count, k .came .written, k .gone .count, k .gone .written), steps sound k)))

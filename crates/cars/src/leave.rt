@@ -75,6 +75,7 @@ pub fn leave_map(
     }
     let s = tables::shape_in(head);
     let c = car as usize;
+    let team = tables::slot_in(cars, c);
     edits::write_car(cars, c, 0);
     let Spot::Cell(x, y) = position::locate(s, tables::spot_in(spots, c)) else {
         return Left::Done(0, 0);
@@ -82,6 +83,6 @@ pub fn leave_map(
     let looked = look_up(s, x, y, starts, entries, left);
     let gone = looked.zones;
     rosters::stamp_rows(rosters, &left[..gone], tables::car_room(head), car, 0);
-    tallies::move_counts(tallies, &left[..gone], 0xFFFF_FFFF);
+    tallies::move_counts(tallies, &left[..gone], team, 0xFFFF_FFFF);
     Left::Done(looked.squares, gone)
 }

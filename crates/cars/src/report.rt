@@ -33,17 +33,21 @@ fn admit(
     rosters: &[u8],
     tallies: &[u32],
     car: u32,
+    team: u32,
     p: Position,
     entered: &[u32],
     left: &[u32],
 ) -> Admitted
-    ensures { λ r. ⌜ r ≡ admitted (lent head zones cars spots starts entries rosters tallies .entry) car p (now (entered .entry)) (now (left .entry)) ⌝ }
+    ensures { λ r. ⌜ r ≡ admitted (lent head zones cars spots starts entries rosters tallies .entry) car team p (now (entered .entry)) (now (left .entry)) ⌝ }
 {
     if !tables::sized(head, zones, cars, spots, starts, entries, rosters, tallies) {
         return Admitted::Refused(3);
     }
     if tables::car_room(head) <= car {
         return Admitted::Refused(5);
+    }
+    if !tables::team_fits(cars, car as usize, team) {
+        return Admitted::Refused(15);
     }
     let Spot::Cell(x, y) = position::locate(tables::shape_in(head), p) else {
         return Admitted::Refused(10);
@@ -121,14 +125,15 @@ fn move_car(
     rosters: &mut [u8],
     tallies: &mut [u32],
     car: u32,
+    team: u32,
     p: Position,
     x: u32,
     y: u32,
     entered: &mut [u32],
     left: &mut [u32],
 ) -> Reported
-    requires { ⌜ Reportable (given head zones cars spots starts entries rosters tallies) car p x y (now entered) (now left) ⌝ }
-    ensures { λ r. ⌜ Keeps (lent head zones cars spots starts entries rosters tallies) (reported car p entered left r) ⌝ }
+    requires { ⌜ Reportable (given head zones cars spots starts entries rosters tallies) car team p x y (now entered) (now left) ⌝ }
+    ensures { λ r. ⌜ Keeps (lent head zones cars spots starts entries rosters tallies) (reported car team p entered left r) ⌝ }
 {
     let s = tables::shape_in(head);
     let c = car as usize;
@@ -150,14 +155,14 @@ fn move_car(
     let gone = seen.left;
     rosters::stamp_rows(rosters, &entered[..came], many, car, 1);
     rosters::stamp_rows(rosters, &left[..gone], many, car, 0);
-    tallies::move_counts(tallies, &entered[..came], 1);
-    tallies::move_counts(tallies, &left[..gone], 0xFFFF_FFFF);
+    tallies::move_counts(tallies, &entered[..came], team as usize, 1);
+    tallies::move_counts(tallies, &left[..gone], team as usize, 0xFFFF_FFFF);
     edits::write_spot(spots, c, p);
-    edits::write_car(cars, c, 1);
+    edits::write_car(cars, c, team + 1);
     Reported::Done(seen.squares, came, gone)
 }
 
-// Places or moves a car: stores the position, writes the zones that the car enters and those that it leaves, lowest first,
+// Places or moves a car of a team: stores both, writes the zones that the car enters and those that it leaves, lowest first,
 // and answers how many squares were looked into and how many zones were written to each buffer.
 pub fn report_car(
     head: &[u32],
@@ -169,11 +174,12 @@ pub fn report_car(
     rosters: &mut [u8],
     tallies: &mut [u32],
     car: u32,
+    team: u32,
     p: Position,
     entered: &mut [u32],
     left: &mut [u32],
 ) -> Reported
-    ensures { λ r. ⌜ Keeps (lent head zones cars spots starts entries rosters tallies) (reported car p entered left r) ⌝ }
+    ensures { λ r. ⌜ Keeps (lent head zones cars spots starts entries rosters tallies) (reported car team p entered left r) ⌝ }
 {
     let admitted = admit(
         head,
@@ -185,6 +191,7 @@ pub fn report_car(
         rosters,
         tallies,
         car,
+        team,
         p,
         entered,
         left,
@@ -201,6 +208,7 @@ pub fn report_car(
             rosters,
             tallies,
             car,
+            team,
             p,
             x,
             y,

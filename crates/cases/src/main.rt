@@ -7,6 +7,7 @@ use grid::CutOf;
 use grid::NumberOf;
 use grid::SquareOf;
 use libc::STDOUT_FILENO;
+use model::HolderOf;
 use position::Coordinate;
 use position::Position;
 use position::Spot;
@@ -87,6 +88,31 @@ pub fn bracket(out: &[u32]) {
     text(b" [");
     first_eight(out);
     text(b" ]");
+    end();
+}
+
+// The cars of each team, and the holder.
+pub fn say_holder(answer: HolderOf) {
+    match answer {
+        HolderOf::Refused(n) => number(n as u64),
+        HolderOf::Held(s) => {
+            number(0);
+            first_eight(
+                &[
+                    s.team0,
+                    s.team1,
+                    s.team2,
+                    s.team3,
+                    s.team4,
+                    s.team5,
+                    s.team6,
+                    s.team7,
+                ],
+            );
+            text(b" by");
+            number(wide(s.holder));
+        }
+    }
     end();
 }
 

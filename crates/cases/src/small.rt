@@ -2,6 +2,7 @@
 use crate::bracket;
 use crate::end;
 use crate::number;
+use crate::say_holder;
 use crate::text;
 use model::CountOf;
 use model::Opened;
@@ -23,23 +24,23 @@ pub struct Small {
     pub starts: [u32; 6],
     pub entries: [u32; 4],
     pub rosters: [u8; 4],
-    pub tallies: [u32; 2],
+    pub tallies: [u32; 20],
 }
 
 const FREE: u32 = 0xFFFF_FFFF;
 
-// Zone 1 is the southern two cells, and car 0 is in the southeast one.
+// Zone 1 is the southern two cells, and car 0, of team 2, is in the southeast one.
 fn standing() -> Small {
     let zero = float_of(0);
     Small {
         head: [1, 1, 1, 2, 2, 4],
         zones: [0, 0, 0, 0, 0, 0, 2, 1],
-        cars: [1, 0],
+        cars: [3, 0],
         spots: [float_of(0x3FC0_0000), float_of(0x3F00_0000), zero, zero],
         starts: [0, 0, 1, 2, 2, 2],
         entries: [257, 513, FREE, FREE],
         rosters: [0, 0, 1, 0],
-        tallies: [0, 1],
+        tallies: [0, 0, 0, 0, 0, 0, 0, 0, 0, 0, 1, 0, 0, 1, 0, 0, 0, 0, 0, 2],
     }
 }
 
@@ -82,7 +83,7 @@ fn opened() {
     let mut starts = [7u32; 6];
     let mut entries = [7u32; 4];
     let mut rosters = [7u8; 4];
-    let mut tallies = [7u32; 2];
+    let mut tallies = [7u32; 20];
     text(b"garbage: sound ->");
     say(readings::soundness_of_town(
         &head,
@@ -239,6 +240,32 @@ fn count(zone: u32) {
     end();
 }
 
+fn holder(zone: u32) {
+    let t = standing();
+    let head = t.head;
+    let zones = t.zones;
+    let cars = t.cars;
+    let spots = t.spots;
+    let starts = t.starts;
+    let entries = t.entries;
+    let rosters = t.rosters;
+    let tallies = t.tallies;
+    text(b"holder");
+    number(zone as u64);
+    text(b" ->");
+    say_holder(readings::holder_of_zone(
+        &head,
+        &zones,
+        &cars,
+        &spots,
+        &starts,
+        &entries,
+        &rosters,
+        &tallies,
+        zone,
+    ));
+}
+
 fn where_car(car: u32) {
     let t = standing();
     let head = t.head;
@@ -294,6 +321,9 @@ fn reads() {
     count(1);
     count(0);
     count(2);
+    holder(1);
+    holder(0);
+    holder(2);
     where_car(0);
     where_car(1);
     where_car(2);
@@ -327,6 +357,14 @@ fn records() {
     moved.spots[1] = float_of(0x3FC0_0000);
     text(b"car elsewhere");
     soundness(moved);
+    let mut changed = standing();
+    changed.cars[0] = 4;
+    text(b"car in another team");
+    soundness(changed);
+    let mut eighth = standing();
+    eighth.cars[0] = 9;
+    text(b"car in a team above 7");
+    soundness(eighth);
     let mut capacity = standing();
     capacity.head[5] = 5;
     text(b"capacity and length apart");
@@ -365,13 +403,22 @@ fn derived() {
     text(b"a car missing");
     soundness(missing);
     let mut counted = standing();
-    counted.tallies[1] = 2;
+    counted.tallies[10] = 2;
     text(b"a car counted twice");
     soundness(counted);
     let mut down = standing();
     down.tallies[0] = 1;
     text(b"a count where no zone stands");
     soundness(down);
+    let mut other = standing();
+    other.tallies[13] = 0;
+    other.tallies[14] = 1;
+    text(b"a car counted for another team");
+    soundness(other);
+    let mut nobody = standing();
+    nobody.tallies[19] = 0;
+    text(b"a zone held by nobody");
+    soundness(nobody);
 }
 
 pub fn small_town() {

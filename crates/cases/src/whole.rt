@@ -3,6 +3,7 @@
 use crate::bracket;
 use crate::end;
 use crate::number;
+use crate::say_holder;
 use crate::text;
 use model::Added;
 use model::CountOf;
@@ -147,6 +148,7 @@ fn report(
     rosters: &mut [u8],
     tallies: &mut [u32],
     car: u32,
+    team: u32,
     x: u32,
     y: u32,
 ) {
@@ -169,6 +171,7 @@ fn report(
         rosters,
         tallies,
         car,
+        team,
         p,
         &mut entered,
         &mut left,
@@ -294,7 +297,34 @@ fn count(
     end();
 }
 
-// One line: what it asks, and five numbers. A roster's count follows it.
+fn holder(
+    head: &[u32],
+    zones: &[u32],
+    cars: &[u32],
+    spots: &[f32],
+    starts: &[u32],
+    entries: &[u32],
+    rosters: &[u8],
+    tallies: &[u32],
+    zone: u32,
+) {
+    text(b"holder");
+    number(zone as u64);
+    text(b" ->");
+    say_holder(readings::holder_of_zone(
+        head,
+        zones,
+        cars,
+        spots,
+        starts,
+        entries,
+        rosters,
+        tallies,
+        zone,
+    ));
+}
+
+// One line: what it asks, and five numbers, a report's third being its team. A roster's count and holder follow it.
 fn line(
     head: &[u32],
     zones: &mut [u32],
@@ -351,6 +381,7 @@ fn line(
             rosters,
             tallies,
             n,
+            w,
             a,
             b,
         );
@@ -382,6 +413,17 @@ fn line(
         n,
     );
     count(
+        head,
+        zones,
+        cars,
+        spots,
+        starts,
+        entries,
+        rosters,
+        tallies,
+        n,
+    );
+    holder(
         head,
         zones,
         cars,
@@ -432,8 +474,10 @@ fn lines(
 
 // The whole case; then a car that stands where a zone is added, steps within a block and between blocks, within a cell, off
 // the map, a car that is none, and a zone taken away; then a car at the east wall and in the corner of the walls, with zones
-// that end there or a cell before.
-const SCRIPT: [u32; 186] = [
+// that end there or a cell before; then teams: two spectators in a zone, a team's car with them, a second team level with it, a
+// lead, a car that would change its team, a team that is none, a zone added over all, the lead lost by one leave, and the car
+// back in the other team.
+const SCRIPT: [u32; 294] = [
     65,
     1,
     5,
@@ -620,6 +664,114 @@ const SCRIPT: [u32; 186] = [
     0,
     0,
     0,
+    65,
+    1,
+    5,
+    2,
+    8,
+    12,
+    80,
+    1,
+    0x40B0_0000,
+    0x4040_0000,
+    0,
+    0,
+    80,
+    2,
+    0x40B0_0000,
+    0x4040_0000,
+    0,
+    0,
+    82,
+    1,
+    0,
+    0,
+    0,
+    0,
+    80,
+    7,
+    0x40B0_0000,
+    0x4040_0000,
+    3,
+    0,
+    82,
+    1,
+    0,
+    0,
+    0,
+    0,
+    80,
+    8,
+    0x40B0_0000,
+    0x4040_0000,
+    5,
+    0,
+    82,
+    1,
+    0,
+    0,
+    0,
+    0,
+    80,
+    9,
+    0x4120_0000,
+    0x4130_0000,
+    3,
+    0,
+    82,
+    1,
+    0,
+    0,
+    0,
+    0,
+    80,
+    7,
+    0x40B0_0000,
+    0x4040_0000,
+    4,
+    0,
+    80,
+    10,
+    0x40B0_0000,
+    0x4040_0000,
+    8,
+    0,
+    65,
+    7,
+    0,
+    0,
+    16,
+    16,
+    82,
+    7,
+    0,
+    0,
+    0,
+    0,
+    76,
+    9,
+    0,
+    0,
+    0,
+    0,
+    82,
+    1,
+    0,
+    0,
+    0,
+    0,
+    80,
+    9,
+    0x4120_0000,
+    0x4130_0000,
+    5,
+    0,
+    82,
+    1,
+    0,
+    0,
+    0,
+    0,
 ];
 
 pub fn whole_case(s: Shape) {
@@ -630,7 +782,7 @@ pub fn whole_case(s: Shape) {
     let mut starts = [7u32; 337];
     let mut entries = [7u32; 2048];
     let mut rosters = [7u8; 1024];
-    let mut tallies = [7u32; 16];
+    let mut tallies = [7u32; 160];
     open(
         &mut head,
         &mut zones,

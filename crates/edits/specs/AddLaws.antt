@@ -8,14 +8,14 @@ use mathlib.Core.Option.{Option, none, some}
 use native.Mathlib.Omega.{arith}
 use native.Mathlib.Nat.{mod-eq-of-lt}
 use lib.Dec.{leb}
-use lib.ListN.{length, set, take, drop, replicate, take-append-drop}
+use lib.ListN.{length, take, drop, replicate, take-append-drop}
 use lib.Seq.{sets, take-at, drop-append-add}
 use borrow.Author.Tests.{leb-true, eq-eqb, ne-eqb, eqb-true}
 use Rattle.order.specs.Order.{upto, keep}
 use Rattle.order.specs.Sums.{bit}
 use Rattle.order.specs.Buffer.{rank}
 use Rattle.order.specs.RankLaws.{rank-keep}
-use Rattle.order.specs.TestLaws.{lt-or-le, true-or-false, true-not-false, and→}
+use Rattle.order.specs.TestLaws.{lt-or-le, true-or-false, true-not-false, and→, same-or-other}
 use Rattle.order.specs.KeepLaws.{span→, →span, keep→, →keep, keep-ext, keep-keep, length-keep, length-span}
 use Rattle.order.specs.RisingLaws.{rising-span, rising-keep, rising-is-keep}
 use Rattle.squares.specs.declared.shape.Rect.{Rect}
@@ -24,24 +24,26 @@ use Rattle.squares.specs.Squares.{squares}
 use Rattle.squares.specs.ShapeLaws.{squares-few, fits→}
 use Rattle.cuts.specs.Cut.{inCut, cut}
 use Rattle.model.specs.Model.{Town, holdsCar, roster, cutSize, entriesUsed, zoneOn, after, except}
-use Rattle.tables.specs.Tables.{Tables, tables, tally, shapeOf, zoneRoom, carRoom, entryRoom, rectIn, rectOf, stands, placed, townOf, rosterHas}
+use Rattle.tables.specs.Tables.{Tables, tables, tally, shapeOf, zoneRoom, carRoom, entryRoom, rectIn, rectOf, stands, placed, zoneIn, carIn, townOf, rosterHas}
 use Rattle.tables.specs.Derived.{on, levelAt, numberAt, keysTo, used, free, entriesOf, startsOf, rostersOf, talliesOf}
 use Rattle.tables.specs.Sound.{Sound}
-use Rattle.tables.specs.Steps.{zoned, withZone, step}
+use Rattle.tables.specs.Steps.{fresh, zoned, withZone, step}
 use Rattle.tables.specs.RecordLaws.{zone-out, car-in, car-out, entries-fresh, rosters-fresh, tallies-fresh}
-use Rattle.tables.specs.RowLaws.{mapped}
+use Rattle.tables.specs.RowLaws.{mapped, right-row}
 use Rattle.tables.specs.RunLaws.{start-at}
 use Rattle.tables.specs.CheckLaws.{size-of}
 use Rattle.tables.specs.CountLaws.{count-used}
 use Rattle.entries.specs.Merge.{Apart, Union, Merged}
 use Rattle.entries.specs.Keys.{zoneKeys, KeysAdded}
 use Rattle.rosters.specs.Inside.{carWithin, rowIn, countIn}
+use Rattle.tallies.specs.Counts.{counted}
+use Rattle.tallies.specs.RightLaws.{counted-right}
 use Rattle.entries.specs.Drops.{ofZone, ofOther}
 use Rattle.edits.specs.ZoneLaws.{length-with, rect-with, rect-with-other, stands-with-other, on-with, on-with-other, sized-zoned}
-use Rattle.edits.specs.TownLaws.{same-or-other, except-own, except-other, town-fresh, town-zone-on}
-use Rattle.edits.specs.RosterLaws.{has-with, rosters-with}
-use Rattle.edits.specs.SumLaws.{sum-one}
-use Rattle.edits.specs.TallyLaws.{tallies-with}
+use Rattle.edits.specs.TownLaws.{except-own, except-other, town-fresh, town-zone-on}
+use Rattle.edits.specs.RosterLaws.{has-with, has-with-other, rosters-with}
+use Rattle.order.specs.SumLaws.{sum-one}
+use Rattle.edits.specs.TallyLaws.{tallies-row}
 use Rattle.starts.specs.RankLaws.{map-same, rank-start}
 use Rattle.entries.specs.KeyLaws.{keys-rise, keys→, →keys, length-keys}
 use Rattle.edits.specs.DropLaws.{length-parts}
@@ -183,8 +185,15 @@ module _ (t : Tables) (sound : Sound t) (z : ℕ) (there : z < zoneRoom t) (down
   pub cars-added : countIn (shapeOf t) (t .records .cars) (t .records .spots) r (carRoom t) ≡ length (roster (after (zoneOn z r) (townOf t)) z)
   cars-added = ap length (keep-ext (carWithin (shapeOf t) (t .records .cars) (t .records .spots) r) (holdsCar (after (zoneOn z r) (townOf t)) z) (upto (carRoom t)) (λ c m. within c))
 
-  count-set : set (t .derived .tallies) (z * tally) (countIn (shapeOf t) (t .records .cars) (t .records .spots) r (carRoom t)) ≡ talliesOf added
-  count-set = ap₂ (λ (l : List ℕ) (n : ℕ). set l (z * tally) n) (tallies-fresh sound) cars-added ∙ tallies-with t (size-of sound) z there r (fit .columns)
+  -- its numbers are counted by its row
+  abbrev row-now : List ℕ
+  row-now = sets (t .derived .rosters) (z * carRoom t) (rowIn (shapeOf t) (t .records .cars) (t .records .spots) r (carRoom t))
+
+  tally-added : sets (t .derived .tallies) (z * tally) (counted (t .records .cars) row-now (z * carRoom t) (carRoom t)) ≡ talliesOf added
+  unfolding placed stands zoneIn carIn rosterHas
+  tally-added =
+      ap (λ (l : List ℕ). sets l (z * tally) (counted (t .records .cars) row-now (z * carRoom t) (carRoom t))) (tallies-fresh sound)
+      ∙ tallies-row t (withZone (t .records .zones) z r) z there (has-with-other t (size-of sound) z there r (fit .columns)) (counted (t .records .cars) row-now (z * carRoom t) (carRoom t)) (counted-right added (λ c e. sound .teams c e) row-now z (rw row-added (right-row (fresh added) refl z there)))
 
   -- ---- the step
 
@@ -198,14 +207,14 @@ module _ (t : Tables) (sound : Sound t) (z : ℕ) (there : z < zoneRoom t) (down
 
   pub add-sound : leb (entriesUsed (townOf t) + length (cut (shapeOf t) r)) (entryRoom t) ≡ true → Sound (step (zoneOn z r) t)
   unfolding placed
-  add-sound h = fresh-sound added (sized-zoned t (withZone (t .records .zones) z r) (size-of sound) (length-with (t .records .zones) z r)) (omega (arith, count-added, count-used t (size-of sound), leb-true (entriesUsed (townOf t) + length (cut (shapeOf t) r)) (entryRoom t) h)) standing (λ c e. sound .cars c e)
+  add-sound h = fresh-sound added (sized-zoned t (withZone (t .records .zones) z r) (size-of sound) (length-with (t .records .zones) z r)) (omega (arith, count-added, count-used t (size-of sound), leb-true (entriesUsed (townOf t) + length (cut (shapeOf t) r)) (entryRoom t) h)) standing (λ c e. sound .cars c e) (λ c e. sound .teams c e)
 
   -- what the functions over each table leave is the step
-  pub added-is : (s e : List ℕ) → KeysAdded (shapeOf t) r z (length (used t)) (t .derived .starts) s (t .derived .entries) e → tables (t .records .head) (withZone (t .records .zones) z r) (t .records .cars) (t .records .spots) s e (sets (t .derived .rosters) (z * carRoom t) (rowIn (shapeOf t) (t .records .cars) (t .records .spots) r (carRoom t))) (set (t .derived .tallies) (z * tally) (countIn (shapeOf t) (t .records .cars) (t .records .spots) r (carRoom t))) ≡ step (zoneOn z r) t
+  pub added-is : (s e : List ℕ) → KeysAdded (shapeOf t) r z (length (used t)) (t .derived .starts) s (t .derived .entries) e → tables (t .records .head) (withZone (t .records .zones) z r) (t .records .cars) (t .records .spots) s e (sets (t .derived .rosters) (z * carRoom t) (rowIn (shapeOf t) (t .records .cars) (t .records .spots) r (carRoom t))) (sets (t .derived .tallies) (z * tally) (counted (t .records .cars) row-now (z * carRoom t) (carRoom t))) ≡ step (zoneOn z r) t
   added-is s e k =
       let w = withZone (t .records .zones) z r in
       let entries = entries-added e (k .merged) in
       let starts = starts-added s e k in
-      ap (λ (l : List ℕ). tables (t .records .head) w (t .records .cars) (t .records .spots) l e (sets (t .derived .rosters) (z * carRoom t) (rowIn (shapeOf t) (t .records .cars) (t .records .spots) r (carRoom t))) (set (t .derived .tallies) (z * tally) (countIn (shapeOf t) (t .records .cars) (t .records .spots) r (carRoom t)))) starts
-      ∙ ap₂ (λ (l m : List ℕ). tables (t .records .head) w (t .records .cars) (t .records .spots) (startsOf added) l m (set (t .derived .tallies) (z * tally) (countIn (shapeOf t) (t .records .cars) (t .records .spots) r (carRoom t)))) entries row-added
-      ∙ ap (λ (l : List ℕ). tables (t .records .head) w (t .records .cars) (t .records .spots) (startsOf added) (entriesOf added) (rostersOf added) l) count-set
+      ap (λ (l : List ℕ). tables (t .records .head) w (t .records .cars) (t .records .spots) l e (sets (t .derived .rosters) (z * carRoom t) (rowIn (shapeOf t) (t .records .cars) (t .records .spots) r (carRoom t))) (sets (t .derived .tallies) (z * tally) (counted (t .records .cars) row-now (z * carRoom t) (carRoom t)))) starts
+      ∙ ap₂ (λ (l m : List ℕ). tables (t .records .head) w (t .records .cars) (t .records .spots) (startsOf added) l m (sets (t .derived .tallies) (z * tally) (counted (t .records .cars) row-now (z * carRoom t) (carRoom t)))) entries row-added
+      ∙ ap (λ (l : List ℕ). tables (t .records .head) w (t .records .cars) (t .records .spots) (startsOf added) (entriesOf added) (rostersOf added) l) tally-added

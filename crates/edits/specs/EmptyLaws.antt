@@ -1,7 +1,7 @@
 -- An empty town is sound, and it is the model's.
 use Prim.Native.Nat.{ℕ, zero, suc, _+_, _*_, _/_, _%_}
 use mathlib.Core.Path.{_≡_, refl, ap, ap₂, sym, fun-ext, _∙_}
-use mathlib.Core.Bool.{true, false}
+use mathlib.Core.Bool.{false}
 use mathlib.Core.List.{List, [], _∷_, map}
 use mathlib.Core.Option.{Option}
 use native.Mathlib.Nat.{sub-zero}
@@ -14,8 +14,7 @@ use Rattle.order.specs.KeepLaws.{keep-none, length-span}
 use Rattle.squares.specs.declared.shape.Rect.{Rect}
 use Rattle.squares.specs.Bounds.{Allowed}
 use Rattle.squares.specs.Squares.{squares}
-use Rattle.position.specs.declared.Position.{Position}
-use Rattle.model.specs.Model.{Opening, Town, emptied, after}
+use Rattle.model.specs.Model.{Opening, Car, Town, emptied, after}
 use Rattle.tables.specs.Tables.{Derived, tally, stands, placed, rosterHas, townOf}
 use Rattle.tables.specs.RecordLaws.{zone-out, car-out, roster-has}
 use Rattle.tables.specs.Sizes.{Roomy}
@@ -23,6 +22,7 @@ use Rattle.tables.specs.Derived.{on, keysTo, free, tallyOf, derivedOf}
 use Rattle.tables.specs.Sound.{Sound}
 use Rattle.tables.specs.CheckLaws.{→sized}
 use Rattle.tables.specs.Steps.{emptyTown}
+use Rattle.edits.specs.TallyLaws.{tally-none}
 
 zeros : (n i : ℕ) → _≡_ {A = ℕ} (getD (replicate n 0) i 0) 0
 zeros zero i = refl
@@ -36,7 +36,7 @@ map-same f v (x ∷ l) h = rw (h x, map-same f v l h)
 derived-same : {a a′ b b′ c c′ d d′ : List ℕ} → a ≡ a′ → b ≡ b′ → c ≡ c′ → d ≡ d′ → _≡_ {A = Derived} (record { starts = a; entries = b; rosters = c; tallies = d }) (record { starts = a′; entries = b′; rosters = c′; tallies = d′ })
 derived-same e f g h = rw (e, f, g, h)
 
-abbrev town : Opening → (ℕ → Option Rect) → (ℕ → Option Position) → Town
+abbrev town : Opening → (ℕ → Option Rect) → (ℕ → Option Car) → Town
 town o zone car = record { opening = o; zone = zone; car = car }
 
 module _ (o : Opening) where
@@ -70,11 +70,11 @@ module _ (o : Opening) where
   tallies-empty : replicate (o .zones * tally) 0 ≡ derivedOf (emptyTown o) .tallies
   unfolding rosterHas
   tallies-empty =
-      let none : (z : ℕ) → tallyOf (emptyTown o) z ≡ 0 ∷ [] = λ z. ap (λ (l : List ℕ). length l ∷ []) (keep-none (rosterHas (emptyTown o) z) (span 0 (o .cars)) (λ c m. no-cars z c)) in
-      sym (map-same (λ (i : ℕ). getD (tallyOf (emptyTown o) (i / tally)) (i % tally) 0) 0 (span 0 (o .zones * tally)) (λ i. ap (λ (l : List ℕ). getD l (i % tally) 0) (none (i / tally)) ∙ zeros 1 (i % tally)) ∙ ap (λ (n : ℕ). replicate n 0) (length-span 0 (o .zones * tally)))
+      let none : (z : ℕ) → tallyOf (emptyTown o) z ≡ replicate tally 0 = λ z. tally-none (emptyTown o) z (no-cars z) in
+      sym (map-same (λ (i : ℕ). getD (tallyOf (emptyTown o) (i / tally)) (i % tally) 0) 0 (span 0 (o .zones * tally)) (λ i. ap (λ (l : List ℕ). getD l (i % tally) 0) (none (i / tally)) ∙ zeros tally (i % tally)) ∙ ap (λ (n : ℕ). replicate n 0) (length-span 0 (o .zones * tally)))
 
   pub town-empty : (m : Town) → townOf (emptyTown o) ≡ after (emptied o) m
-  town-empty m = ap₂ (λ (zone : ℕ → Option Rect) (car : ℕ → Option Position). town o zone car) (fun-ext (λ z. zone-out (emptyTown o) z (none-stands z))) (fun-ext (λ c. car-out (emptyTown o) c (none-placed c)))
+  town-empty m = ap₂ (λ (zone : ℕ → Option Rect) (car : ℕ → Option Car). town o zone car) (fun-ext (λ z. zone-out (emptyTown o) z (none-stands z))) (fun-ext (λ c. car-out (emptyTown o) c (none-placed c)))
 
   pub empty-sound : Allowed (o .shape) → Roomy (o .zones) (o .cars) (o .entries) → Sound (emptyTown o)
   empty-sound a m = record {
@@ -94,5 +94,6 @@ module _ (o : Opening) where
     });
     zones = λ z e. absurd (true-not-false _ e (none-stands z));
     cars = λ c e. absurd (true-not-false _ e (none-placed c));
+    teams = λ c e. absurd (true-not-false _ e (none-placed c));
     derived = derived-same starts-empty entries-empty rosters-empty tallies-empty;
   }

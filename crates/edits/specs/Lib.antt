@@ -2,9 +2,9 @@ pub mod ZoneLaws
 pub mod SpotLaws
 pub mod TownLaws
 pub mod RosterLaws
-pub mod SumLaws
 pub mod GainLaws
 pub mod TallyLaws
+pub mod SquadLaws
 pub mod DropLaws
 pub mod StepLaws
 pub mod CarLaws

@@ -16,9 +16,8 @@ use Rattle.order.specs.TestLaws.{lt-or-eq-or-gt}
 use Rattle.order.specs.KeepLaws.{length-span}
 use Rattle.squares.specs.declared.shape.Rect.{Rect}
 use Rattle.squares.specs.Shape.{holds}
-use Rattle.position.specs.declared.Position.{Position}
 use Rattle.position.specs.Answer.{columnOf, rowOf}
-use Rattle.model.specs.Model.{Town, there, holdsCar, zoneOn, zoneOff, after}
+use Rattle.model.specs.Model.{Car, Town, there, holdsCar, zoneOn, zoneOff, after}
 use Rattle.tables.specs.Tables.{Tables, zoneRoom, carRoom, zoneIn, townOf, rosterHas}
 use Rattle.tables.specs.Sizes.{Sized}
 use Rattle.tables.specs.Derived.{rostersOf}
@@ -37,14 +36,14 @@ has-town t m e z c = ap (λ (n : Town). holdsCar n z c) (sym (town-fresh t) ∙ 
 
 -- a car is in the zone with a rectangle, where there is one
 abbrev hasBy : Town → ℕ → Option Rect → Bool
-hasBy m c o = there (m .car c) (λ (p : Position). there o (λ (r : Rect). holds r (columnOf (m .opening .shape) p) (rowOf (m .opening .shape) p)))
+hasBy m c o = there (m .car c) (λ (a : Car). there o (λ (r : Rect). holds r (columnOf (m .opening .shape) (a .position)) (rowOf (m .opening .shape) (a .position))))
 
 has-none : (m : Town) (c : ℕ) → hasBy m c none ≡ false
 has-none m c = go (m .car c)
   where
-    go : (o : Option Position) → there o (λ (p : Position). false) ≡ false
+    go : (o : Option Car) → there o (λ (a : Car). false) ≡ false
     go none = refl
-    go (some p) = refl
+    go (some a) = refl
 
 module _ (t : Tables) (size : Sized t) (z : ℕ) (within : z < zoneRoom t) (r : Rect) (wide : 0 < r .w) where
   -- with a zone more

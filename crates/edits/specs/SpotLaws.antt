@@ -1,5 +1,5 @@
 -- Laws of a car's record and its position written.
-use Prim.Native.Nat.{ℕ, suc, _+_, _*_, _<_, _≤_}
+use Prim.Native.Nat.{ℕ, suc, _+_, _-_, _*_, _<_, _≤_}
 use mathlib.Core.Path.{_≡_, ap, _∙_}
 use mathlib.Core.Logic.{⊎-elim}
 use mathlib.Core.Bool.{true, false}
@@ -9,9 +9,10 @@ use lib.Dec.{ltb}
 use lib.Ieee.{Float, nan}
 use lib.ListN.{length, getD, set, length-set, List·getD-eq-default}
 use lib.Seq.{length-sets, getD-set-same, getD-set-other}
+use borrow.Author.Tests.{lt-ltb}
 use Rattle.order.specs.TestLaws.{lt-or-le}
 use Rattle.position.specs.declared.Position.{Position}
-use Rattle.tables.specs.Tables.{placedIn, spotIn}
+use Rattle.tables.specs.Tables.{placedIn, teamIn, spotIn}
 use Rattle.tables.specs.Steps.{withSpot}
 
 -- ---- a position stored
@@ -45,8 +46,12 @@ module _ (spots : List Float) (c : ℕ) (p : Position) where
 -- ---- a car's mark
 
 module _ (cars : List ℕ) (c : ℕ) where
-  pub placed-with : c < length cars → placedIn (set cars c 1) c ≡ true
-  placed-with h = ap (ltb 0) (getD-set-same cars c 1 0 h)
+  pub placed-with : (g : ℕ) → c < length cars → placedIn (set cars c (g + 1)) c ≡ true
+  placed-with g h = ap (ltb 0) (getD-set-same cars c (g + 1) 0 h) ∙ lt-ltb 0 (g + 1) (omega arith)
+
+  -- its team
+  pub team-with : (g : ℕ) → c < length cars → teamIn (set cars c (g + 1)) c ≡ g
+  team-with g h = ap (λ (n : ℕ). n - 1) (getD-set-same cars c (g + 1) 0 h) ∙ omega arith
 
   pub placed-without : placedIn (set cars c 0) c ≡ false
   placed-without = ap (ltb 0) (⊎-elim
@@ -56,3 +61,6 @@ module _ (cars : List ℕ) (c : ℕ) where
 
   pub placed-other : (mark d : ℕ) → (d ≡ c → ⊥) → placedIn (set cars c mark) d ≡ placedIn cars d
   placed-other mark d f = ap (ltb 0) (getD-set-other cars c d mark 0 f)
+
+  pub team-other : (mark d : ℕ) → (d ≡ c → ⊥) → teamIn (set cars c mark) d ≡ teamIn cars d
+  team-other mark d f = ap (λ (n : ℕ). n - 1) (getD-set-other cars c d mark 0 f)

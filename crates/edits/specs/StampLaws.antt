@@ -1,37 +1,40 @@
 -- Laws of a car's bytes set in the rows of the zones it enters and leaves: the rosters are then what the records give.
--- With them and the counts moved, the tables are those of the step.
+-- With them and the rows of the tallies turned, the tables are those of the step.
 use Prim.Native.Nat.{ℕ, _+_, _*_, _/_, _%_, _<_}
 use mathlib.Core.Path.{_≡_, refl, ap, ap₂, sym, _∙_}
 use mathlib.Core.Logic.{⊎-elim}
 use mathlib.Core.Bool.{Bool, true, false, _&&_, not, and-true}
 use mathlib.Core.List.{List, [], _∷_, List·Memᴰ, List·Memᴰ·head, List·Memᴰ·tail, List·Memᴰ·cases-cons, List·Memᴰ·not-nil}
+use mathlib.Core.Option.{Option, none, some}
 use native.Mathlib.Omega.{arith}
 use native.Mathlib.Nat.{div-add-mod', mod-lt, div-lt-iff-lt-mul}
+use lib.Dec.{eqb}
 use lib.Ieee.{Float}
 use lib.Arith.{digits-lt, digits-div, digits-mod}
 use lib.ListN.{length, getD, set, length-set}
 use lib.Seq.{getD-set-same, getD-set-other, ext-getD}
 use Rattle.order.specs.Order.{upto, keep}
 use Rattle.order.specs.Sums.{bit}
-use Rattle.order.specs.TestLaws.{true-or-false, true-not-false}
+use Rattle.order.specs.TestLaws.{true-or-false, true-not-false, same-or-other}
 use Rattle.order.specs.KeepLaws.{keep-ext, keep-none}
-use Rattle.position.specs.declared.Position.{Position}
 use Rattle.position.specs.Answer.{columnOf, rowOf}
-use Rattle.model.specs.Model.{Town, holdsCar, carAt, carOff}
-use Rattle.tables.specs.Tables.{Tables, tables, shapeOf, zoneRoom, carRoom, zoneHolds, rosterHas}
+use Rattle.model.specs.TeamLaws.{teamed-few, teamed-own}
+use Rattle.model.specs.Model.{Car, Town, there, holdsSpot, holdsCar, drivesFor, teamed, carAt, carOff}
+use Rattle.tables.specs.Tables.{Tables, tables, shapeOf, zoneRoom, carRoom, placed, carIn, townOf, zoneHolds, rosterHas}
+use Rattle.tables.specs.Slots.{slotIn}
 use Rattle.tables.specs.Sizes.{Sized}
 use Rattle.tables.specs.Derived.{rostersOf, talliesOf}
 use Rattle.tables.specs.Sound.{Sound}
 use Rattle.tables.specs.Steps.{fresh, parked, withSpot, step}
 use Rattle.tables.specs.CheckLaws.{size-of}
-use Rattle.tables.specs.RecordLaws.{rosters-fresh, tallies-fresh}
+use Rattle.tables.specs.RecordLaws.{car-in, slot-team, rosters-fresh, tallies-fresh}
 use Rattle.rosters.specs.Rosters.{stamped}
 use Rattle.tallies.specs.Counts.{moved}
 use Rattle.edits.specs.RosterLaws.{byte-at, length-rosters}
 use Rattle.edits.specs.GainLaws.{gained, gained→, →gained}
-use Rattle.edits.specs.TallyLaws.{tallies-moved}
-use Rattle.edits.specs.TownLaws.{same-or-other, town-fresh}
-use Rattle.edits.specs.CarLaws.{report-own, report-other, report-keeps, leave-own, leave-other, leave-keeps}
+use Rattle.edits.specs.SquadLaws.{tallies-moved}
+use Rattle.edits.specs.TownLaws.{town-fresh}
+use Rattle.edits.specs.CarLaws.{report-own, report-other, drives-own, drives-other, report-keeps, leave-own, leave-other, leave-drives, leave-keeps}
 
 -- ---- what each byte is then
 
@@ -138,35 +141,55 @@ has-fresh : (u : Tables) (z d : ℕ) → rosterHas (fresh u) z d ≡ rosterHas u
 unfolding rosterHas
 has-fresh u z d = ap (λ (m : Town). holdsCar m z d) (town-fresh u)
 
+-- a team that a car on the map may report is its own
+team-own : (t : Tables) (c g : ℕ) → teamed (carIn t c) g ≡ true → (z h : ℕ) → rosterHas t z c ≡ true → drivesFor (townOf t) h c ≡ eqb g h
+unfolding rosterHas
+team-own t c g = go (carIn t c)
+  where
+    go : (o : Option Car) → teamed o g ≡ true → (z h : ℕ) → there o (λ (a : Car). holdsSpot (townOf t) z (a .position)) ≡ true → there o (λ (a : Car). eqb (a .team) h) ≡ eqb g h
+    go none e z h f = absurd (true-not-false false f refl)
+    go (some a) e z h f = ap (λ (n : ℕ). eqb n h) (sym (teamed-own a g e))
+
+drives-fresh : (u : Tables) (g d : ℕ) → drivesFor (townOf (fresh u)) g d ≡ drivesFor (townOf u) g d
+drives-fresh u g d = ap (λ (m : Town). drivesFor m g d) (town-fresh u)
+
 module _ (t : Tables) (sound : Sound t) (c : ℕ) (there : c < carRoom t) where
-  -- the zones that a report enters and leaves have their bytes set and their counts moved
-  pub reported-is : (p : Position) (came gone : List ℕ) → came ≡ keep (λ (z : ℕ). zoneHolds t z (columnOf (shapeOf t) p) (rowOf (shapeOf t) p) && not (rosterHas t z c)) (upto (zoneRoom t)) → gone ≡ keep (λ (z : ℕ). rosterHas t z c && not (zoneHolds t z (columnOf (shapeOf t) p) (rowOf (shapeOf t) p))) (upto (zoneRoom t)) → tables (t .records .head) (t .records .zones) (set (t .records .cars) c 1) (withSpot (t .records .spots) c p) (t .derived .starts) (t .derived .entries) (stamped (stamped (t .derived .rosters) came (carRoom t) c 1) gone (carRoom t) c 0) (moved (moved (t .derived .tallies) came 1) gone 4294967295) ≡ step (carAt c p) t
-  reported-is p came gone e f =
-      let cars = set (t .records .cars) c 1 in
-      let spots = withSpot (t .records .spots) c p in
+  -- the zones that a report enters and leaves have their bytes set and their rows turned
+  pub reported-is : (a : Car) → teamed (carIn t c) (a .team) ≡ true → (came gone : List ℕ) → came ≡ keep (λ (z : ℕ). zoneHolds t z (columnOf (shapeOf t) (a .position)) (rowOf (shapeOf t) (a .position)) && not (rosterHas t z c)) (upto (zoneRoom t)) → gone ≡ keep (λ (z : ℕ). rosterHas t z c && not (zoneHolds t z (columnOf (shapeOf t) (a .position)) (rowOf (shapeOf t) (a .position)))) (upto (zoneRoom t)) → tables (t .records .head) (t .records .zones) (set (t .records .cars) c (a .team + 1)) (withSpot (t .records .spots) c (a .position)) (t .derived .starts) (t .derived .entries) (stamped (stamped (t .derived .rosters) came (carRoom t) c 1) gone (carRoom t) c 0) (moved (moved (t .derived .tallies) came (a .team) 1) gone (a .team) 4294967295) ≡ step (carAt c a) t
+  reported-is a fits came gone e f =
+      let g = a .team in
+      let cars = set (t .records .cars) c (g + 1) in
+      let spots = withSpot (t .records .spots) c (a .position) in
       let u = parked t cars spots in
-      let own : (z : ℕ) → rosterHas u z c ≡ zoneHolds t z (columnOf (shapeOf t) p) (rowOf (shapeOf t) p) = λ (z : ℕ). sym (has-fresh u z c) ∙ report-own t c p z sound there in
+      let held : ℕ → Bool = λ z. zoneHolds t z (columnOf (shapeOf t) (a .position)) (rowOf (shapeOf t) (a .position)) in
+      let own : (z : ℕ) → rosterHas u z c ≡ held z = λ (z : ℕ). sym (has-fresh u z c) ∙ report-own t c a z sound there in
       let e′ : came ≡ gained t u c = e ∙ keep-ext _ (λ (z : ℕ). rosterHas u z c && not (rosterHas t z c)) (upto (zoneRoom t)) (λ z m. ap (λ (b : Bool). b && not (rosterHas t z c)) (sym (own z))) in
       let f′ : gone ≡ gained u t c = f ∙ keep-ext _ (λ (z : ℕ). rosterHas t z c && not (rosterHas u z c)) (upto (zoneRoom t)) (λ z m. ap (λ (b : Bool). rosterHas t z c && not b) (sym (own z))) in
-      let same : (z d : ℕ) → (d ≡ c → ⊥) → rosterHas u z d ≡ rosterHas t z d = λ z d g. sym (has-fresh u z d) ∙ report-other t c p z sound there d g in
+      let same : (z d : ℕ) → (d ≡ c → ⊥) → rosterHas u z d ≡ rosterHas t z d = λ z d o. sym (has-fresh u z d) ∙ report-other t c a z sound there d o in
+      let drives : (h d : ℕ) → (d ≡ c → ⊥) → drivesFor (townOf u) h d ≡ drivesFor (townOf t) h d = λ h d o. sym (drives-fresh u h d) ∙ drives-other t c a 0 sound there h d o in
+      let new : (z h : ℕ) → rosterHas u z c ≡ true → drivesFor (townOf u) h c ≡ eqb g h = λ z h o. sym (drives-fresh u h c) ∙ drives-own t c a 0 sound there h in
       let bytes = ap₂ (λ (a b : List ℕ). stamped (stamped (t .derived .rosters) a (carRoom t) c 1) b (carRoom t) c 0) e′ f′ ∙ ap (λ (b : List ℕ). stamped (stamped b (gained t u c) (carRoom t) c 1) (gained u t c) (carRoom t) c 0) (rosters-fresh sound) ∙ rosters-stamped t cars spots (size-of sound) c there same in
-      let counts = ap₂ (λ (a b : List ℕ). moved (moved (t .derived .tallies) a 1) b 4294967295) e′ f′ ∙ ap (λ (b : List ℕ). moved (moved b (gained t u c) 1) (gained u t c) 4294967295) (tallies-fresh sound) ∙ tallies-moved t cars spots (size-of sound) c there same in
-      let keeps = report-keeps t sound c p in
+      let counts = ap₂ (λ (a b : List ℕ). moved (moved (t .derived .tallies) a g 1) b g 4294967295) e′ f′ ∙ ap (λ (b : List ℕ). moved (moved b (gained t u c) g 1) (gained u t c) g 4294967295) (tallies-fresh sound) ∙ tallies-moved t cars spots (size-of sound) c g there (teamed-few (carIn t c) g fits) same drives (λ z h. team-own t c g fits z h) new in
+      let keeps = report-keeps t sound c a in
       ap₂ (λ (b n : List ℕ). tables (t .records .head) (t .records .zones) cars spots (t .derived .starts) (t .derived .entries) b n) bytes counts
       ∙ ap₂ (λ (a b : List ℕ). tables (t .records .head) (t .records .zones) cars spots a b (rostersOf u) (talliesOf u)) (sym (keeps .starts)) (sym (keeps .entries))
 
-  -- the zones that a leave takes the car from have their bytes cleared and their counts moved
-  pub departed-is : (gone : List ℕ) → gone ≡ keep (λ (z : ℕ). rosterHas t z c) (upto (zoneRoom t)) → tables (t .records .head) (t .records .zones) (set (t .records .cars) c 0) (t .records .spots) (t .derived .starts) (t .derived .entries) (stamped (t .derived .rosters) gone (carRoom t) c 0) (moved (t .derived .tallies) gone 4294967295) ≡ step (carOff c) t
+  -- the zones that a leave takes the car from have their bytes cleared and their rows turned
+  pub departed-is : placed t c ≡ true → (gone : List ℕ) → gone ≡ keep (λ (z : ℕ). rosterHas t z c) (upto (zoneRoom t)) → tables (t .records .head) (t .records .zones) (set (t .records .cars) c 0) (t .records .spots) (t .derived .starts) (t .derived .entries) (stamped (t .derived .rosters) gone (carRoom t) c 0) (moved (t .derived .tallies) gone (slotIn (t .records .cars) c) 4294967295) ≡ step (carOff c) t
   unfolding stamped moved
-  departed-is gone f =
+  departed-is on gone f =
+      let g = slotIn (t .records .cars) c in
       let cars = set (t .records .cars) c 0 in
       let u = parked t cars (t .records .spots) in
       let own : (z : ℕ) → rosterHas u z c ≡ false = λ (z : ℕ). sym (has-fresh u z c) ∙ leave-own t c z in
       let none : gained t u c ≡ [] = keep-none (λ (z : ℕ). rosterHas u z c && not (rosterHas t z c)) (upto (zoneRoom t)) (λ z m. ap (λ (b : Bool). b && not (rosterHas t z c)) (own z)) in
       let f′ : gone ≡ gained u t c = f ∙ keep-ext (λ (z : ℕ). rosterHas t z c) (λ (z : ℕ). rosterHas t z c && not (rosterHas u z c)) (upto (zoneRoom t)) (λ z m. sym (ap (λ (b : Bool). rosterHas t z c && not b) (own z) ∙ and-true (rosterHas t z c))) in
-      let same : (z d : ℕ) → (d ≡ c → ⊥) → rosterHas u z d ≡ rosterHas t z d = λ z d g. sym (has-fresh u z d) ∙ leave-other t c z d g in
+      let same : (z d : ℕ) → (d ≡ c → ⊥) → rosterHas u z d ≡ rosterHas t z d = λ z d o. sym (has-fresh u z d) ∙ leave-other t c z d o in
+      let drives : (h d : ℕ) → (d ≡ c → ⊥) → drivesFor (townOf u) h d ≡ drivesFor (townOf t) h d = λ h d o. sym (drives-fresh u h d) ∙ leave-drives t c 0 h d o in
+      let old : (z h : ℕ) → rosterHas t z c ≡ true → drivesFor (townOf t) h c ≡ eqb g h = λ z h o. rw (slot-team t c on (sound .teams c on), car-in t c on) in
+      let new : (z h : ℕ) → rosterHas u z c ≡ true → drivesFor (townOf u) h c ≡ eqb g h = λ z h o. absurd (true-not-false (rosterHas u z c) o (own z)) in
       let bytes = ap₂ (λ (a b : List ℕ). stamped a b (carRoom t) c 0) (rosters-fresh sound) f′ ∙ ap (λ (a : List ℕ). stamped (stamped (rostersOf t) a (carRoom t) c 1) (gained u t c) (carRoom t) c 0) (sym none) ∙ rosters-stamped t cars (t .records .spots) (size-of sound) c there same in
-      let counts = ap₂ (λ (a b : List ℕ). moved a b 4294967295) (tallies-fresh sound) f′ ∙ ap (λ (a : List ℕ). moved (moved (talliesOf t) a 1) (gained u t c) 4294967295) (sym none) ∙ tallies-moved t cars (t .records .spots) (size-of sound) c there same in
+      let counts = ap₂ (λ (a b : List ℕ). moved a b g 4294967295) (tallies-fresh sound) f′ ∙ ap (λ (a : List ℕ). moved (moved (talliesOf t) a g 1) (gained u t c) g 4294967295) (sym none) ∙ tallies-moved t cars (t .records .spots) (size-of sound) c g there (omega arith) same drives old new in
       let keeps = leave-keeps t sound c in
       ap₂ (λ (b n : List ℕ). tables (t .records .head) (t .records .zones) cars (t .records .spots) (t .derived .starts) (t .derived .entries) b n) bytes counts
       ∙ ap₂ (λ (a b : List ℕ). tables (t .records .head) (t .records .zones) cars (t .records .spots) a b (rostersOf u) (talliesOf u)) (sym (keeps .starts)) (sym (keeps .entries))

@@ -5,15 +5,18 @@ use mathlib.Core.Logic.{⊎-elim}
 use mathlib.Core.Bool.{true, _&&_}
 use mathlib.Core.List.{List}
 use native.Mathlib.Omega.{arith}
-use lib.ListN.{length, set, replicate, length-append, length-replicate, length-map}
+use lib.Dec.{leb}
+use lib.ListN.{length, replicate, length-append, length-replicate, length-map}
+use lib.Seq.{sets}
 use Rattle.order.specs.Order.{upto, keep}
-use Rattle.order.specs.TestLaws.{true-not-false}
+use Rattle.order.specs.TestLaws.{true-not-false, same-or-other}
 use Rattle.order.specs.KeepLaws.{length-span, length-keep, keep-ext, keep-keep}
 use Rattle.squares.specs.Bounds.{Fits}
 use Rattle.squares.specs.Squares.{squares}
 use Rattle.position.specs.Answer.{onTown}
+use Rattle.model.specs.Teams.{lastTeam}
 use Rattle.model.specs.Model.{zoneOff}
-use Rattle.tables.specs.Tables.{Tables, tables, tally, shapeOf, rectIn, standsIn, zoneRoom, carRoom, entryRoom, rectOf, stands, placed, spotOf, zoneIn, carIn, rosterHas}
+use Rattle.tables.specs.Tables.{Tables, tables, tally, shapeOf, rectIn, standsIn, zoneRoom, carRoom, entryRoom, rectOf, stands, placed, teamOf, spotOf, zoneIn, carIn, rosterHas}
 use Rattle.tables.specs.Sizes.{Sized}
 use Rattle.tables.specs.Derived.{on, keysTo, used, free, entriesOf, startsOf}
 use Rattle.tables.specs.Sound.{Sound}
@@ -24,14 +27,13 @@ use Rattle.tables.specs.TallyLaws.{length-tallies}
 use Rattle.entries.specs.Drops.{ofOther, Drops}
 use Rattle.rosters.specs.Rosters.{rowCleared}
 use Rattle.edits.specs.ZoneLaws.{length-without, stands-without, rect-without-other, stands-without-other, on-without, sized-zoned}
-use Rattle.edits.specs.TownLaws.{same-or-other}
 use Rattle.edits.specs.DropLaws.{drop-sound, lower-sound}
 use Rattle.squares.specs.ShapeLaws.{fits→, →fits}
 use Rattle.edits.specs.RosterLaws.{rosters-without}
 use Rattle.edits.specs.TallyLaws.{tallies-without}
 
 -- what is derived goes by the records alone, so working it out again gives the same
-module _ (t : Tables) (size : Sized t) (room : length (used t) ≤ entryRoom t) (rects : (z : ℕ) → stands t z ≡ true → Fits (shapeOf t) (rectOf t z)) (places : (c : ℕ) → placed t c ≡ true → onTown (shapeOf t) (spotOf t c) ≡ true) where
+module _ (t : Tables) (size : Sized t) (room : length (used t) ≤ entryRoom t) (rects : (z : ℕ) → stands t z ≡ true → Fits (shapeOf t) (rectOf t z)) (places : (c : ℕ) → placed t c ≡ true → onTown (shapeOf t) (spotOf t c) ≡ true) (teams : (c : ℕ) → placed t c ≡ true → leb (teamOf t c) lastTeam ≡ true) where
   pub fresh-sound : Sound (fresh t)
   unfolding stands placed on rosterHas zoneIn carIn
   fresh-sound = record {
@@ -51,6 +53,7 @@ module _ (t : Tables) (size : Sized t) (room : length (used t) ≤ entryRoom t) 
     });
     zones = λ z e. →fits (shapeOf t) (rectOf t z) (rects z e);
     cars = places;
+    teams = teams;
     derived = refl;
   }
 
@@ -76,14 +79,14 @@ module _ (t : Tables) (sound : Sound t) (z : ℕ) where
 
   pub remove-sound : Sound (step (zoneOff z) t)
   unfolding placed
-  remove-sound = fresh-sound (zoned t (withoutZone (t .records .zones) z)) (sized-zoned t (withoutZone (t .records .zones) z) (size-of sound) (length-without (t .records .zones) z)) (omega (arith, removed-room, used-room t sound)) standing (λ c e. sound .cars c e)
+  remove-sound = fresh-sound (zoned t (withoutZone (t .records .zones) z)) (sized-zoned t (withoutZone (t .records .zones) z) (size-of sound) (length-without (t .records .zones) z)) (omega (arith, removed-room, used-room t sound)) standing (λ c e. sound .cars c e) (λ c e. sound .teams c e)
 
   -- what the functions over each table leave is the step
-  pub removed-is : z < zoneRoom t → (s e : List ℕ) → Drops z (t .derived .starts) s (t .derived .entries) e → tables (t .records .head) (withoutZone (t .records .zones) z) (t .records .cars) (t .records .spots) s e (rowCleared (t .derived .rosters) z (carRoom t)) (set (t .derived .tallies) (z * tally) 0) ≡ step (zoneOff z) t
+  pub removed-is : z < zoneRoom t → (s e : List ℕ) → Drops z (t .derived .starts) s (t .derived .entries) e → tables (t .records .head) (withoutZone (t .records .zones) z) (t .records .cars) (t .records .spots) s e (rowCleared (t .derived .rosters) z (carRoom t)) (sets (t .derived .tallies) (z * tally) (replicate tally 0)) ≡ step (zoneOff z) t
   removed-is h s e d =
       let w = withoutZone (t .records .zones) z in
       let u = zoned t w in
       let rosters = ap (λ (l : List ℕ). rowCleared l z (carRoom t)) (rosters-fresh sound) ∙ sym (rosters-without t (size-of sound) z h) in
-      let tallies = ap (λ (l : List ℕ). set l (z * tally) 0) (tallies-fresh sound) ∙ tallies-without t z h in
-      ap₂ (λ (l m : List ℕ). tables (t .records .head) w (t .records .cars) (t .records .spots) l m (rowCleared (t .derived .rosters) z (carRoom t)) (set (t .derived .tallies) (z * tally) 0)) (lower-sound sound z (d .starts)) (d .entries ∙ drop-sound sound z)
+      let tallies = ap (λ (l : List ℕ). sets l (z * tally) (replicate tally 0)) (tallies-fresh sound) ∙ tallies-without t z h in
+      ap₂ (λ (l m : List ℕ). tables (t .records .head) w (t .records .cars) (t .records .spots) l m (rowCleared (t .derived .rosters) z (carRoom t)) (sets (t .derived .tallies) (z * tally) (replicate tally 0))) (lower-sound sound z (d .starts)) (d .entries ∙ drop-sound sound z)
       ∙ ap₂ (λ (l m : List ℕ). tables (t .records .head) w (t .records .cars) (t .records .spots) (startsOf u) (entriesOf u) l m) rosters tallies

@@ -1,27 +1,24 @@
 -- The town that the tables say after a step is the model's town after the change.
-use Prim.Native.Nat.{ℕ, _<_}
+use Prim.Native.Nat.{ℕ, _+_, _<_}
 use mathlib.Core.Path.{_≡_, refl, ap, ap₂, sym, fun-ext, _∙_}
-use mathlib.Core.Logic.{_⊎_, inl, inr, ⊎-elim}
-use mathlib.Core.Bool.{Bool, true, cond}
+use mathlib.Core.Logic.{⊎-elim}
+use mathlib.Core.Bool.{Bool, cond}
 use mathlib.Core.Option.{Option, none, some}
 use native.Mathlib.Omega.{arith}
 use lib.Dec.{ltb}
-use lib.ListN.{set}
+use lib.ListN.{length, set}
 use borrow.Author.Tests.{lt-ltb, eq-eqb, ne-eqb}
-use Rattle.order.specs.TestLaws.{lt-or-eq-or-gt}
+use Rattle.order.specs.TestLaws.{same-or-other}
 use Rattle.squares.specs.declared.shape.Rect.{Rect}
 use Rattle.position.specs.declared.Position.{Position}
-use Rattle.model.specs.Model.{Town, zoneOn, zoneOff, carAt, carOff, after, except}
-use Rattle.tables.specs.Tables.{Tables, zoneRoom, carRoom, rectIn, stands, placedIn, placed, spotIn, zoneIn, carIn, townOf}
+use Rattle.model.specs.Model.{Car, Town, zoneOn, zoneOff, carAt, carOff, after, except}
+use Rattle.tables.specs.Tables.{Tables, zoneRoom, carRoom, rectIn, stands, placedIn, placed, teamIn, spotIn, zoneIn, carIn, townOf}
 use Rattle.tables.specs.Sizes.{Sized}
 use Rattle.tables.specs.Steps.{fresh, withZone, withoutZone, withSpot, step}
 use Rattle.edits.specs.ZoneLaws.{rect-with, rect-with-other, rect-without-other, stands-without}
-use Rattle.edits.specs.SpotLaws.{spot-with, spot-with-other, placed-with, placed-without, placed-other}
+use Rattle.edits.specs.SpotLaws.{spot-with, spot-with-other, placed-with, placed-without, placed-other, team-with, team-other}
 
 -- ---- the old value but for one number
-
-pub same-or-other : (j i : ℕ) → (j ≡ i) ⊎ (j ≡ i → ⊥)
-same-or-other j i = ⊎-elim (λ (h : j < i). inr (λ (e : j ≡ i). omega arith)) (⊎-elim (λ (e : j ≡ i). inl e) (λ (h : i < j). inr (λ (e : j ≡ i). omega arith))) (lt-or-eq-or-gt j i)
 
 pub except-own : {A : Type 0} (i : ℕ) (new : Option A) (old : ℕ → Option A) → except i new old i ≡ new
 except-own i new old = rw (eq-eqb i i refl)
@@ -36,8 +33,8 @@ at-or-not i new old j v own other = ⊎-elim
     (same-or-other j i)
 
 -- a town by its zones and its cars
-town-same : (m : Town) {zone : ℕ → Option Rect} {car : ℕ → Option Position} → ((y : ℕ) → zone y ≡ m .zone y) → ((d : ℕ) → car d ≡ m .car d) → _≡_ {A = Town} (record { opening = m .opening; zone = zone; car = car }) m
-town-same m f g = ap₂ (λ (zone : ℕ → Option Rect) (car : ℕ → Option Position). record { opening = m .opening; zone = zone; car = car }) (fun-ext f) (fun-ext g)
+town-same : (m : Town) {zone : ℕ → Option Rect} {car : ℕ → Option Car} → ((y : ℕ) → zone y ≡ m .zone y) → ((d : ℕ) → car d ≡ m .car d) → _≡_ {A = Town} (record { opening = m .opening; zone = zone; car = car }) m
+town-same m f g = ap₂ (λ (zone : ℕ → Option Rect) (car : ℕ → Option Car). record { opening = m .opening; zone = zone; car = car }) (fun-ext f) (fun-ext g)
 
 -- ---- a zone
 
@@ -65,30 +62,33 @@ town-zone-off t z = town-same (after (zoneOff z) (townOf t))
 
 -- ---- a car
 
--- by its mark and its position
-abbrev carBy : Bool → Position → Option Position
-carBy b p = cond b (some p) none
+-- by its mark, its position and its team
+abbrev carBy : Bool → Position → ℕ → Option Car
+carBy b p g = cond b (some (record { position = p; team = g })) none
 
-pub town-car-at : (t : Tables) → Sized t → (c : ℕ) → c < carRoom t → (p : Position) → townOf (step (carAt c p) t) ≡ after (carAt c p) (townOf t)
+car-same : {b b′ : Bool} {p p′ : Position} {g g′ : ℕ} → b ≡ b′ → p ≡ p′ → g ≡ g′ → carBy b p g ≡ carBy b′ p′ g′
+car-same e f h = rw (e, f, h)
+
+pub town-car-at : (t : Tables) → Sized t → (c : ℕ) → c < carRoom t → (a : Car) → townOf (step (carAt c a) t) ≡ after (carAt c a) (townOf t)
 unfolding zoneIn carIn stands placed
-town-car-at t size c there p = town-same (after (carAt c p) (townOf t))
+town-car-at t size c there a = town-same (after (carAt c a) (townOf t))
     (λ y. refl)
-    (λ d. at-or-not c (some p) (carIn t) d _ own (λ f. ap (λ (b : Bool). carBy b (spotIn (withSpot (t .records .spots) c p) d)) (placed-other (t .records .cars) c 1 d f) ∙ ap (carBy (placedIn (t .records .cars) d)) (spot-with-other (t .records .spots) c p d f)))
+    (λ d. at-or-not c (some a) (carIn t) d _ own (λ f. car-same (placed-other (t .records .cars) c (a .team + 1) d f) (spot-with-other (t .records .spots) c (a .position) d f) (team-other (t .records .cars) c (a .team + 1) d f)))
   where
-    own : {d : ℕ} → d ≡ c → carBy (placedIn (set (t .records .cars) c 1) d) (spotIn (withSpot (t .records .spots) c p) d) ≡ some p
+    own : {d : ℕ} → d ≡ c → carBy (placedIn (set (t .records .cars) c (a .team + 1)) d) (spotIn (withSpot (t .records .spots) c (a .position)) d) (teamIn (set (t .records .cars) c (a .team + 1)) d) ≡ some a
     own {d} e =
-        ap (λ (i : ℕ). carBy (placedIn (set (t .records .cars) c 1) i) (spotIn (withSpot (t .records .spots) c p) i)) e
-        ∙ ap (λ (b : Bool). carBy b (spotIn (withSpot (t .records .spots) c p) c)) (placed-with (t .records .cars) c (omega (arith, size .lengths .cars)))
-        ∙ ap (carBy true) (spot-with (t .records .spots) c p (omega (arith, size .lengths .spots)))
+        let room : c < length (t .records .cars) = omega (arith, size .lengths .cars) in
+        ap (λ (i : ℕ). carBy (placedIn (set (t .records .cars) c (a .team + 1)) i) (spotIn (withSpot (t .records .spots) c (a .position)) i) (teamIn (set (t .records .cars) c (a .team + 1)) i)) e
+        ∙ car-same (placed-with (t .records .cars) c (a .team) room) (spot-with (t .records .spots) c (a .position) (omega (arith, size .lengths .spots))) (team-with (t .records .cars) c (a .team) room)
 
 pub town-car-off : (t : Tables) (c : ℕ) → townOf (step (carOff c) t) ≡ after (carOff c) (townOf t)
 unfolding zoneIn carIn stands placed
 town-car-off t c = town-same (after (carOff c) (townOf t))
     (λ y. refl)
-    (λ d. at-or-not c none (carIn t) d _ own (λ f. ap (λ (b : Bool). carBy b (spotIn (t .records .spots) d)) (placed-other (t .records .cars) c 0 d f)))
+    (λ d. at-or-not c none (carIn t) d _ own (λ f. car-same (placed-other (t .records .cars) c 0 d f) refl (team-other (t .records .cars) c 0 d f)))
   where
-    own : {d : ℕ} → d ≡ c → carBy (placedIn (set (t .records .cars) c 0) d) (spotIn (t .records .spots) d) ≡ none
-    own {d} e = ap (λ (i : ℕ). carBy (placedIn (set (t .records .cars) c 0) i) (spotIn (t .records .spots) i)) e ∙ ap (λ (b : Bool). carBy b (spotIn (t .records .spots) c)) (placed-without (t .records .cars) c)
+    own : {d : ℕ} → d ≡ c → carBy (placedIn (set (t .records .cars) c 0) d) (spotIn (t .records .spots) d) (teamIn (set (t .records .cars) c 0) d) ≡ none
+    own {d} e = ap (λ (b : Bool). carBy b (spotIn (t .records .spots) d) (teamIn (set (t .records .cars) c 0) d)) (ap (placedIn (set (t .records .cars) c 0)) e ∙ placed-without (t .records .cars) c)
 
 -- ---- what is derived is no part of the town
 

@@ -1,11 +1,11 @@
 -- After any history the tables are sound, and they and the town in them are what the history says.
 use Prim.Native.Nat.{ℕ, zero, suc, _+_, _*_}
 use mathlib.Core.Path.{_≡_, refl, ap, ap₂, fun-ext, sym, subst, _∙_}
-use mathlib.Core.Bool.{Bool, true, false}
-use mathlib.Core.List.{List, [], _∷_}
+use mathlib.Core.Bool.{Bool, true}
+use mathlib.Core.List.{List, []}
 use native.Mathlib.Omega.{arith}
 use lib.Dec.{eqb}
-use borrow.Author.Tests.{ltb-true, not-true, eq-eqb, eqb-true}
+use borrow.Author.Tests.{le-leb, ltb-true, not-true, eq-eqb, eqb-true}
 use Rattle.order.specs.TestLaws.{and→, both-ways}
 use Rattle.squares.specs.Squares.{squares}
 use Rattle.squares.specs.ShapeLaws.{allowed→, fits→}
@@ -13,11 +13,13 @@ use Rattle.squares.specs.Refusals.{first, Answer, refuse, accept, result}
 use Rattle.squares.specs.RefusalLaws.{by-refusal, clear}
 use Rattle.model.specs.declared.answers.Opened.{Opened}
 use Rattle.model.specs.Answers.{Values, numbers}
-use Rattle.model.specs.Model.{Opening, Town, known, Call, opening, adding, removing, reporting, leaving, searching, askRoster, askCount, askWhere, askSoundness, Event, Change, emptied, zoneOn, zoneOff, carAt, carOff, nothing, changeOf, changeBy, change, after, Lengths, meaning}
-use Rattle.tables.specs.Tables.{Tables, tally, shapeOf, zoneRoom, carRoom, entryRoom, zoneIn, townOf, openingIn}
-use Rattle.tables.specs.Check.{long, sized}
+use Rattle.model.specs.Teams.{lastTeam}
+use Rattle.model.specs.TeamLaws.{teamed-few}
+use Rattle.model.specs.Model.{Opening, Car, Town, known, Call, opening, adding, removing, reporting, leaving, searching, askRoster, askCount, askHolder, askWhere, askSoundness, Event, Change, emptied, nothing, changeOf, changeBy, change, after, Lengths, meaning}
+use Rattle.tables.specs.Tables.{Tables, tally, shapeOf, zoneRoom, carRoom, entryRoom, zoneIn, carIn, townOf, openingIn}
+use Rattle.tables.specs.Check.{long}
 use Rattle.tables.specs.Sizes.{Long}
-use Rattle.tables.specs.CheckLaws.{roomy→, long→, →long, →sized, size-of}
+use Rattle.tables.specs.CheckLaws.{roomy→, long→, →long, size-of}
 use Rattle.tables.specs.RecordLaws.{stands-known}
 use Rattle.tables.specs.Sound.{Sound}
 use Rattle.tables.specs.Lent.{both}
@@ -64,14 +66,16 @@ module _ (t : Tables) (sound : Sound t) where
         town = town-zone-on t (size-of sound) z there r (fit .columns);
       }
   next-accepted (removing z) none late = record { is = refl; sound = remove-sound t sound z; town = town-zone-off t z }
-  next-accepted (reporting c p entered left) none late =
-      let h = clear (means t (reporting c p entered left) .checks) refl none in
+  next-accepted (reporting c g p entered left) none late =
+      let h = clear (means t (reporting c g p entered left) .checks) refl none in
       let there = ltb-true c (carRoom t) (h .1 .0) in
-      record { is = refl; sound = report-sound t sound c p there (h .1 .1 .0); town = town-car-at t (size-of sound) c there p }
+      let a : Car = record { position = p; team = g } in
+      record { is = refl; sound = report-sound t sound c a there (h .1 .1 .1 .0) (le-leb g lastTeam (teamed-few (carIn t c) g (h .1 .1 .0))); town = town-car-at t (size-of sound) c there a }
   next-accepted (leaving c left) none late = record { is = refl; sound = leave-sound t sound c; town = town-car-off t c }
   next-accepted (searching p found) none late = next-same
   next-accepted (askRoster z inside) none late = next-same
   next-accepted (askCount z) none late = next-same
+  next-accepted (askHolder z) none late = next-same
   next-accepted (askWhere c) none late = next-same
   next-accepted askSoundness none late = next-same
 

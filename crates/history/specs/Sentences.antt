@@ -4,18 +4,19 @@ use mathlib.Core.Path.{_≡_, refl, ap, ap₂, sym, subst, _∙_}
 use mathlib.Core.Logic.{⊎-elim}
 use mathlib.Core.Bool.{true, false}
 use mathlib.Core.List.{List, [], _∷_}
-use mathlib.Core.Option.{Option, some}
+use mathlib.Core.Option.{some}
 use native.Mathlib.Omega.{arith}
-use lib.Dec.{ltb}
+use lib.Dec.{leb, ltb}
 use lib.ListN.{length, getD, List·getD-eq-default}
-use borrow.Author.Tests.{le-leb, lt-ltb, ltb-true, ne-eqb}
+use borrow.Author.Tests.{le-leb, lt-ltb, leb-true, ltb-true, ne-eqb}
 use Rattle.order.specs.Order.{over}
-use Rattle.order.specs.Sums.{bit}
+use Rattle.order.specs.Sums.{sum, bit}
 use Rattle.order.specs.TestLaws.{lt-or-le, true-not-false}
+use Rattle.order.specs.SumLaws.{sum-ext, count-one}
 use Rattle.squares.specs.declared.shape.Rect.{Rect}
 use Rattle.cuts.specs.Cut.{cut}
-use Rattle.squares.specs.Refusals.{first, Answer, refuse, accept, Result, refusing, giving, result}
-use Rattle.squares.specs.RefusalLaws.{stops, clear, by-refusal}
+use Rattle.squares.specs.Refusals.{first, Answer, refuse, accept, Result, giving, result}
+use Rattle.squares.specs.RefusalLaws.{clear, by-refusal}
 use Rattle.position.specs.declared.Position.{Position}
 use Rattle.model.specs.declared.answers.Opened.{Opened}
 use Rattle.model.specs.declared.answers.Added.{Added}
@@ -24,23 +25,25 @@ use Rattle.model.specs.declared.answers.Left.{Left}
 use Rattle.model.specs.declared.answers.Searched.{Searched}
 use Rattle.model.specs.declared.answers.RosterOf.{RosterOf}
 use Rattle.model.specs.declared.answers.CountOf.{CountOf}
+use Rattle.model.specs.declared.answers.HolderOf.{HolderOf}
 use Rattle.model.specs.declared.answers.WhereIs.{WhereIs}
 use Rattle.model.specs.declared.answers.SoundnessOf.{SoundnessOf}
-use Rattle.model.specs.Answers.{Values, numbers, spot, addedIs, reportedIs, leftIs, searchedIs, rosterIs, countIs, whereIs, soundnessIs}
+use Rattle.model.specs.Answers.{Values, numbers, addedIs, reportedIs, leftIs, searchedIs, rosterIs, countIs, holderIs, whereIs, soundnessIs}
 use Rattle.model.specs.AnswerLaws.{added-same, reported-same, left-same, searched-same, roster-same, count-same, where-same, soundness-same}
-use Rattle.model.specs.Model.{Opening, Town, known, holdsSpot, holdsCar, roster, zonesAt, zonesOf, zonesEntered, zonesLeft, looked, Call, opening, adding, reporting, leaving, searching, askRoster, askCount, askWhere, askSoundness, Event, zoneOn, carAt, change, after, Lengths, meaning, refusal, refused, outcome}
+use Rattle.model.specs.Teams.{lastTeam}
+use Rattle.model.specs.TeamLaws.{squads-sum, teamed-own}
+use Rattle.model.specs.Model.{Opening, Car, Town, there, known, holdsSpot, holdsCar, roster, squad, holder, standing, zonesAt, zonesOf, zonesEntered, zonesLeft, looked, Call, opening, adding, reporting, leaving, searching, askRoster, askCount, askHolder, askWhere, askSoundness, Event, zoneOn, carAt, change, after, Lengths, meaning, refusal, refused, outcome}
 use Rattle.model.specs.RosterLaws.{report-other, report-own, report-same, report-roster}
-use Rattle.tables.specs.Tables.{Tables, tally, zoneRoom, carRoom, stands, placed, zoneIn, carIn, townOf, rosterHas}
-use Rattle.tables.specs.RecordLaws.{stands-known, placed-known}
+use Rattle.tables.specs.Tables.{Tables, tally, zoneRoom, carRoom, stands, placed, carIn, townOf, rosterHas}
+use Rattle.tables.specs.RecordLaws.{stands-known, placed-known, car-in}
 use Rattle.tables.specs.Sound.{Sound}
 use Rattle.tables.specs.RunLaws.{stands-below}
 use Rattle.tables.specs.RowLaws.{roster-byte}
-use Rattle.tables.specs.TallyLaws.{count-sound}
+use Rattle.tables.specs.TallyLaws.{count-sound, team-sound, holder-sound}
 use Rattle.tables.specs.Lent.{both}
 use Rattle.tables.specs.CheckLaws.{size-of}
 use Rattle.tables.specs.Steps.{emptyTown, step}
-use Rattle.edits.specs.SumLaws.{count-one}
-use Rattle.promises.specs.Promise.{lengthsIn, means, bars, Keeps}
+use Rattle.promises.specs.Promise.{means, bars, Keeps}
 use Rattle.promises.specs.Events.{event, opened}
 use Rattle.promises.specs.PromiseLaws.{outcomeIn, keeps-done, keeps-told, keeps-unique, trusts-sound, some-kept}
 use Rattle.history.specs.History.{History, begins, goes, said, lengthsSaid, replayed}
@@ -111,6 +114,11 @@ module _ {es : List Event} {t : Tables} (h : History es t) where
   unfolding meaning
   count-true {z} {answer} k q = count-same answer (CountOf.Cars (length (roster (said es) z))) (ap (λ (r : Result Values). r .answer) (accepted-true (event (askCount z) [] (countIs answer)) t k q))
 
+  -- the holder call tells how many of them drive for each team, and the team that has strictly more of them than each other
+  pub holder-true : {z : ℕ} (answer : HolderOf) → Keeps (both t t) (event (askHolder z) [] (holderIs answer)) → refusal (lengthsSaid es) (said es) (askHolder z) ≡ 0 → holderIs answer ≡ accept (numbers (standing (said es) z))
+  unfolding meaning
+  holder-true {z} answer k q = ap (λ (r : Result Values). r .answer) (accepted-true (event (askHolder z) [] (holderIs answer)) t k q)
+
   -- a search finds the zones that stand and hold the point
   pub search-true : {p : Position} {b b′ : List ℕ} {answer : Searched} → Keeps (both t t) (event (searching p b) (b′ ∷ []) (searchedIs answer)) → refusal (lengthsSaid es) (said es) (searching p b) ≡ 0 → (answer ≡ Searched.Found (said es .opening .shape .k + 1) (length (zonesAt (said es) p))) × (b′ ≡ over (zonesAt (said es) p) b)
   unfolding meaning
@@ -119,10 +127,10 @@ module _ {es : List Event} {t : Tables} (h : History es t) where
       (searched-same answer (Searched.Found (said es .opening .shape .k + 1) (length (zonesAt (said es) p))) (ap (λ (r : Result Values). r .answer) a), ap (buffer 0) a)
 
   -- a report's square count, zones entered and zones left are what its old and new cells give
-  pub report-true : {t′ : Tables} {c : ℕ} {p : Position} {e e′ l l′ : List ℕ} {answer : Reported} → Keeps (both t t′) (event (reporting c p e l) (e′ ∷ l′ ∷ []) (reportedIs answer)) → refusal (lengthsSaid es) (said es) (reporting c p e l) ≡ 0 → (answer ≡ Reported.Done (looked (said es .opening .shape) (said es .car c) p) (length (zonesEntered (said es) c p)) (length (zonesLeft (said es) c p))) × (e′ ≡ over (zonesEntered (said es) c p) e) × (l′ ≡ over (zonesLeft (said es) c p) l)
+  pub report-true : {t′ : Tables} {c g : ℕ} {p : Position} {e e′ l l′ : List ℕ} {answer : Reported} → Keeps (both t t′) (event (reporting c g p e l) (e′ ∷ l′ ∷ []) (reportedIs answer)) → refusal (lengthsSaid es) (said es) (reporting c g p e l) ≡ 0 → (answer ≡ Reported.Done (looked (said es .opening .shape) (said es .car c) p) (length (zonesEntered (said es) c p)) (length (zonesLeft (said es) c p))) × (e′ ≡ over (zonesEntered (said es) c p) e) × (l′ ≡ over (zonesLeft (said es) c p) l)
   unfolding meaning
-  report-true {t′} {c} {p} {e} {e′} {l} {l′} {answer} k q =
-      let a = accepted-true (event (reporting c p e l) (e′ ∷ l′ ∷ []) (reportedIs answer)) t′ k q in
+  report-true {t′} {c} {g} {p} {e} {e′} {l} {l′} {answer} k q =
+      let a = accepted-true (event (reporting c g p e l) (e′ ∷ l′ ∷ []) (reportedIs answer)) t′ k q in
       (reported-same answer (Reported.Done (looked (said es .opening .shape) (said es .car c) p) (length (zonesEntered (said es) c p)) (length (zonesLeft (said es) c p))) (ap (λ (r : Result Values). r .answer) a), ap (buffer 0) a, ap (buffer 1) a)
 
   -- a car that leaves, leaves the zones in which its last accepted report lies
@@ -146,21 +154,21 @@ module _ {es : List Event} {t : Tables} (h : History es t) where
 
   -- ---- which rosters an accepted report changes
 
-  module _ {t′ : Tables} {c : ℕ} {p : Position} {buffers : List (List ℕ)} {e l : List ℕ} {v : Values} (k : Keeps (both t t′) (event (reporting c p e l) buffers (accept v))) (z : ℕ) (same : holdsCar (said es) z c ≡ holdsSpot (said es) z p) where
+  module _ {t′ : Tables} {c g : ℕ} {p : Position} {buffers : List (List ℕ)} {e l : List ℕ} {v : Values} (k : Keeps (both t t′) (event (reporting c g p e l) buffers (accept v))) (z : ℕ) (same : holdsCar (said es) z c ≡ holdsSpot (said es) z p) where
     -- a zone that holds both cells or neither, or that does not hold the new cell of a car that was off the map, keeps its roster
-    pub roster-kept : roster (said (event (reporting c p e l) buffers (accept v) ∷ es)) z ≡ roster (said es) z
+    pub roster-kept : roster (said (event (reporting c g p e l) buffers (accept v) ∷ es)) z ≡ roster (said es) z
     unfolding said
-    roster-kept = report-roster (said es) c z p same
+    roster-kept = report-roster (said es) c z (record { position = p; team = g }) same
 
     -- every byte of its row
     pub row-kept : z < zoneRoom t → (d : ℕ) → d < carRoom t → getD (t′ .derived .rosters) (z * carRoom t + d) 0 ≡ getD (t .derived .rosters) (z * carRoom t + d) 0
     unfolding rosterHas
     row-kept there d below =
-        let n = next t sound-after t′ (event (reporting c p e l) buffers (accept v)) k in
+        let n = next t sound-after t′ (event (reporting c g p e l) buffers (accept v)) k in
         let room : (zoneRoom t′ ≡ zoneRoom t) × (carRoom t′ ≡ carRoom t) = (ap (λ (m : Town). m .opening .zones) (n .town), ap (λ (m : Town). m .opening .cars) (n .town)) in
         ap (λ (i : ℕ). getD (t′ .derived .rosters) (z * i + d) 0) (sym (room .1))
         ∙ roster-byte t′ (n .sound) z d (omega (arith, room .0)) (omega (arith, room .1))
-        ∙ ap bit (ap (λ (m : Town). holdsCar m z d) (n .town) ∙ report-same (townOf t) c z p (subst (λ (m : Town). holdsCar m z c ≡ holdsSpot m z p) (sym town-after) same) d)
+        ∙ ap bit (ap (λ (m : Town). holdsCar m z d) (n .town) ∙ report-same (townOf t) c z (record { position = p; team = g }) (subst (λ (m : Town). holdsCar m z c ≡ holdsSpot m z p) (sym town-after) same) d)
         ∙ sym (roster-byte t sound-after z d there below)
 
   -- ---- the counts
@@ -170,29 +178,60 @@ module _ {es : List Event} {t : Tables} (h : History es t) where
   count-after z there = count-sound t sound-after z there ∙ ap (λ (m : Town). length (roster m z)) town-after
 
   -- which ones an accepted report changes: one more for a zone that it enters, one less for a zone that it leaves, no other
-  module _ {t′ : Tables} {c : ℕ} {p : Position} {buffers : List (List ℕ)} {e l : List ℕ} {v : Values} (k : Keeps (both t t′) (event (reporting c p e l) buffers (accept v))) (z : ℕ) where
+  module _ {t′ : Tables} {c g : ℕ} {p : Position} {buffers : List (List ℕ)} {e l : List ℕ} {v : Values} (k : Keeps (both t t′) (event (reporting c g p e l) buffers (accept v))) (z : ℕ) where
     reporter : c < said es .opening .cars
     unfolding meaning
-    reporter = by-refusal (bars t (reporting c p e l))
-        (λ none. omega (arith, ltb-true c (carRoom t) (clear (means t (reporting c p e l) .checks) refl none .1 .0), ap (λ (m : Town). m .opening .cars) town-after))
-        (λ f. let d : _≡_ {A = Answer Values} (accept v) (refuse (bars t (reporting c p e l))) = ap (λ (x : Event). x .result .answer) (k .refuses f .0) in let n : _≡_ {A = ℕ} 0 1 = cc in absurd (omega arith))
+    reporter = by-refusal (bars t (reporting c g p e l))
+        (λ none. omega (arith, ltb-true c (carRoom t) (clear (means t (reporting c g p e l) .checks) refl none .1 .0), ap (λ (m : Town). m .opening .cars) town-after))
+        (λ f. let d : _≡_ {A = Answer Values} (accept v) (refuse (bars t (reporting c g p e l))) = ap (λ (x : Event). x .result .answer) (k .refuses f .0) in let n : _≡_ {A = ℕ} 0 1 = cc in absurd (omega arith))
 
-    pub count-entered : holdsCar (said es) z c ≡ false → holdsSpot (said es) z p ≡ true → length (roster (said (event (reporting c p e l) buffers (accept v) ∷ es)) z) ≡ length (roster (said es) z) + 1
+    pub count-entered : holdsCar (said es) z c ≡ false → holdsSpot (said es) z p ≡ true → length (roster (said (event (reporting c g p e l) buffers (accept v) ∷ es)) z) ≡ length (roster (said es) z) + 1
     unfolding said
-    count-entered off on = count-one (holdsCar (after (carAt c p) (said es)) z) (holdsCar (said es) z) (said es .opening .cars) c reporter (λ d f. report-other (said es) c z p d (ne-eqb d c f)) (report-own (said es) c z p ∙ on) off
+    count-entered off on = count-one (holdsCar (after (carAt c (record { position = p; team = g })) (said es)) z) (holdsCar (said es) z) (said es .opening .cars) c reporter (λ d f. report-other (said es) c z (record { position = p; team = g }) d (ne-eqb d c f)) (report-own (said es) c z (record { position = p; team = g }) ∙ on) off
 
-    pub count-left : holdsCar (said es) z c ≡ true → holdsSpot (said es) z p ≡ false → length (roster (said es) z) ≡ length (roster (said (event (reporting c p e l) buffers (accept v) ∷ es)) z) + 1
+    pub count-left : holdsCar (said es) z c ≡ true → holdsSpot (said es) z p ≡ false → length (roster (said es) z) ≡ length (roster (said (event (reporting c g p e l) buffers (accept v) ∷ es)) z) + 1
     unfolding said
-    count-left on off = count-one (holdsCar (said es) z) (holdsCar (after (carAt c p) (said es)) z) (said es .opening .cars) c reporter (λ d f. sym (report-other (said es) c z p d (ne-eqb d c f))) on (report-own (said es) c z p ∙ off)
+    count-left on off = count-one (holdsCar (said es) z) (holdsCar (after (carAt c (record { position = p; team = g })) (said es)) z) (said es .opening .cars) c reporter (λ d f. sym (report-other (said es) c z (record { position = p; team = g }) d (ne-eqb d c f))) on (report-own (said es) c z (record { position = p; team = g }) ∙ off)
 
-    pub count-kept : holdsCar (said es) z c ≡ holdsSpot (said es) z p → length (roster (said (event (reporting c p e l) buffers (accept v) ∷ es)) z) ≡ length (roster (said es) z)
+    pub count-kept : holdsCar (said es) z c ≡ holdsSpot (said es) z p → length (roster (said (event (reporting c g p e l) buffers (accept v) ∷ es)) z) ≡ length (roster (said es) z)
     count-kept same = ap length (roster-kept k z same)
+
+  -- ---- the teams
+
+  -- each car on the map has one of the eight
+  pub teams-few : (c : ℕ) (a : Car) → said es .car c ≡ some a → a .team ≤ lastTeam
+  teams-few c a e =
+      let in-t : carIn t c ≡ some a = ap (λ (m : Town). m .car c) town-after ∙ e in
+      let on : placed t c ≡ true = sym (placed-known t c) ∙ ap known in-t in
+      let held : there (carIn t c) (λ (b : Car). leb (b .team) lastTeam) ≡ true = rw (car-in t c on) (sound-after .teams c on) in
+      leb-true (a .team) lastTeam (rw in-t at held)
+
+  -- the stored counts are how many cars of each team have their last accepted report in the zone, and add up to its count
+  pub team-after : (z g : ℕ) → z < zoneRoom t → g ≤ lastTeam → getD (t .derived .tallies) (z * tally + (g + 1)) 0 ≡ squad (said es) z g
+  team-after z g there few = team-sound t sound-after z there g few ∙ ap (λ (m : Town). squad m z g) town-after
+
+  pub teams-sum : (z : ℕ) → z < zoneRoom t → sum (λ (g : ℕ). getD (t .derived .tallies) (z * tally + (g + 1)) 0) (lastTeam + 1) ≡ getD (t .derived .tallies) (z * tally) 0
+  teams-sum z there =
+      sum-ext (λ (g : ℕ). getD (t .derived .tallies) (z * tally + (g + 1)) 0) (squad (said es) z) (lastTeam + 1) (λ g l. team-after z g there (omega arith))
+      ∙ squads-sum (said es) z teams-few
+      ∙ sym (count-after z there)
+
+  -- the stored holder is the team that leads by them (the model's TeamLaws say what that is)
+  pub holder-after : (z : ℕ) → z < zoneRoom t → getD (t .derived .tallies) (z * tally + 9) 0 ≡ holder (said es) z
+  holder-after z there = holder-sound t sound-after z there ∙ ap (λ (m : Town). holder m z) town-after
+
+  -- a car on the map keeps its team
+  pub team-fixed : {t′ : Tables} {c g : ℕ} {p : Position} {buffers : List (List ℕ)} {e l : List ℕ} {v : Values} → Keeps (both t t′) (event (reporting c g p e l) buffers (accept v)) → {a : Car} → said es .car c ≡ some a → g ≡ a .team
+  unfolding meaning
+  team-fixed {t′} {c} {g} {p} {buffers} {e} {l} {v} k {a} q = by-refusal (bars t (reporting c g p e l))
+      (λ none. teamed-own a g (rw (ap (λ (m : Town). m .car c) town-after ∙ q) at (clear (means t (reporting c g p e l) .checks) refl none .1 .1 .0)))
+      (λ f. let d : _≡_ {A = Answer Values} (accept v) (refuse (bars t (reporting c g p e l))) = ap (λ (x : Event). x .result .answer) (k .refuses f .0) in let n : _≡_ {A = ℕ} 0 1 = cc in absurd (omega arith))
 
   -- ---- what stands is within the capacities
 
-  pub car-there : {c : ℕ} {p : Position} → said es .car c ≡ some p → c < said es .opening .cars
+  pub car-there : {c : ℕ} {a : Car} → said es .car c ≡ some a → c < said es .opening .cars
   unfolding placed
-  car-there {c} {p} e =
+  car-there {c} {a} e =
       let on : placed t c ≡ true = sym (placed-known t c) ∙ ap known (ap (λ (m : Town). m .car c) town-after ∙ e) in
       let many : carRoom t ≡ said es .opening .cars = ap (λ (m : Town). m .opening .cars) town-after in
       ⊎-elim
@@ -207,21 +246,25 @@ module _ {es : List Event} {t : Tables} (h : History es t) where
       omega (arith, stands-below t z (size-of sound-after) on)
 
   -- where gives the last accepted bits
-  pub where-true : {c : ℕ} {p : Position} {answer : WhereIs} → Keeps (both t t) (event (askWhere c) [] (whereIs answer)) → said es .car c ≡ some p → answer ≡ WhereIs.At p
+  pub where-true : {c : ℕ} {a : Car} {answer : WhereIs} → Keeps (both t t) (event (askWhere c) [] (whereIs answer)) → said es .car c ≡ some a → answer ≡ WhereIs.At (a .position)
   unfolding meaning first
-  where-true {c} {p} {answer} k e =
-      let a = accepted-true (event (askWhere c) [] (whereIs answer)) t k (rw (lt-ltb c (said es .opening .cars) (car-there e), e)) in
-      where-same answer (WhereIs.At p) (rw e at (ap (λ (r : Result Values). r .answer) a))
+  where-true {c} {a} {answer} k e =
+      let done = accepted-true (event (askWhere c) [] (whereIs answer)) t k (rw (lt-ltb c (said es .opening .cars) (car-there e), e)) in
+      where-same answer (WhereIs.At (a .position)) (rw e at (ap (λ (r : Result Values). r .answer) done))
 
   -- the roster of a zone that stands is written wherever the buffer has room
   pub roster-accepted : (z : ℕ) {r : Rect} (b : List ℕ) → said es .zone z ≡ some r → said es .opening .cars ≤ length b → refusal (lengthsSaid es) (said es) (askRoster z b) ≡ 0
   unfolding meaning first
   roster-accepted z b e l = rw (lt-ltb z (said es .opening .zones) (zone-there e), e, le-leb (said es .opening .cars) (length b) l)
 
-  -- and so is its count told
+  -- and so are its count and its holder told
   pub count-accepted : (z : ℕ) {r : Rect} → said es .zone z ≡ some r → refusal (lengthsSaid es) (said es) (askCount z) ≡ 0
   unfolding meaning first
   count-accepted z e = rw (lt-ltb z (said es .opening .zones) (zone-there e), e)
+
+  pub holder-accepted : (z : ℕ) {r : Rect} → said es .zone z ≡ some r → refusal (lengthsSaid es) (said es) (askHolder z) ≡ 0
+  unfolding meaning first
+  holder-accepted z e = rw (lt-ltb z (said es .opening .zones) (zone-there e), e)
 
 -- ---- histories
 

@@ -1,5 +1,4 @@
 -- Document 01's whole case is a history, and its answers compute.
-use Prim.Native.Nat.{ℕ}
 use mathlib.Core.Path.{_≡_, refl, sym}
 use mathlib.Core.Bool.{true}
 use mathlib.Core.List.{List, [], _∷_}
@@ -41,11 +40,11 @@ adds = event (adding 1 (rect 5 2 8 12)) [] (addedIs (Added.Done 36 0)) ∷ opens
 
 -- P 7 40B00000 40400000    -> P 0 3 1 -
 unfoldable pub enters : List Event
-enters = event (reporting 7 near zones zones) ((1 ∷ replicate 15 0) ∷ zones ∷ []) (reportedIs (Reported.Done 3 1 0)) ∷ adds
+enters = event (reporting 7 0 near zones zones) ((1 ∷ replicate 15 0) ∷ zones ∷ []) (reportedIs (Reported.Done 3 1 0)) ∷ adds
 
 -- P 7 41200000 41300000    -> P 0 6 - -
 unfoldable pub moves : List Event
-moves = event (reporting 7 far zones zones) (zones ∷ zones ∷ []) (reportedIs (Reported.Done 6 0 0)) ∷ enters
+moves = event (reporting 7 0 far zones zones) (zones ∷ zones ∷ []) (reportedIs (Reported.Done 6 0 0)) ∷ enters
 
 -- R 1                      -> R 0 1 7
 unfoldable pub lists : List Event
@@ -69,11 +68,11 @@ adds-computes : outcome (lengthsSaid opens) true (said opens) (adding 1 (rect 5 
 unfolding opens adds said first meaning asked rect at keep span sum onTown columnOf rowOf onMap inRange whole cellOf ofBits toBits isNan number interleave cutTo inCut inside cornerX cornerY evens
 adds-computes = refl
 
-enters-computes : outcome (lengthsSaid adds) true (said adds) (reporting 7 near zones zones) ∷ adds ≡ enters
+enters-computes : outcome (lengthsSaid adds) true (said adds) (reporting 7 0 near zones zones) ∷ adds ≡ enters
 unfolding opens adds enters said first meaning asked rect at keep span sum onTown columnOf rowOf onMap inRange whole cellOf ofBits toBits isNan number interleave cutTo inCut inside cornerX cornerY evens
 enters-computes = refl
 
-moves-computes : outcome (lengthsSaid enters) true (said enters) (reporting 7 far zones zones) ∷ enters ≡ moves
+moves-computes : outcome (lengthsSaid enters) true (said enters) (reporting 7 0 far zones zones) ∷ enters ≡ moves
 unfolding opens adds enters moves said first meaning asked rect at keep span sum onTown columnOf rowOf onMap inRange whole cellOf ofBits toBits isNan number interleave cutTo inCut inside cornerX cornerY evens
 moves-computes = refl
 
@@ -108,8 +107,8 @@ unfolding opens
 history =
     let a : (t : Tables) × History opens t = (emptyTown asked, history-begins asked (emptyTown asked) open-taken) in
     let b = goes-on a (adding 1 (rect 5 2 8 12)) adds-computes in
-    let c = goes-on b (reporting 7 near zones zones) enters-computes in
-    let d = goes-on c (reporting 7 far zones zones) moves-computes in
+    let c = goes-on b (reporting 7 0 near zones zones) enters-computes in
+    let d = goes-on c (reporting 7 0 far zones zones) moves-computes in
     let e = goes-on d (askRoster 1 cars) lists-computes in
     let f = goes-on e (adding 1 (rect 0 0 1 1)) refuses-computes in
     let g = goes-on f (leaving 7 zones) leaves-computes in

@@ -3,7 +3,7 @@ use Prim.Native.Nat.{ℕ, suc, _+_, _*_}
 use mathlib.Core.Path.{_≡_, refl, ap, ap₂, sym, _∙_}
 use mathlib.Core.Bool.{true, _&&_}
 use mathlib.Core.List.{List, [], _∷_, _++_, map}
-use lib.Ieee.{Float, binary32, ofBits}
+use lib.Ieee.{binary32, ofBits}
 use lib.ListN.{length, getD, getD-replicate, replicate, set}
 use borrow.Author.Tests.{eq-eqb, leb-true}
 use Rattle.order.specs.Order.{span, keep}
@@ -12,13 +12,15 @@ use Rattle.order.specs.Sums.{sum}
 use Rattle.squares.specs.Squares.{cornerX, cornerY, evens}
 use Rattle.cuts.specs.Cut.{cutTo, inCut, inside}
 use Rattle.model.specs.Whole.{asked, rect, at, far}
-use Rattle.tables.specs.Tables.{Tables, Derived, Records, tables, shapeOf, rosterHas, zoneHolds, zoneIn, carIn, stands, placed}
-use Rattle.tables.specs.Derived.{before, levelAt, on, free, derivedOf}
+use Rattle.model.specs.Teams.{leads, lead}
+use Rattle.tables.specs.Tables.{Tables, Derived, Records, tables, shapeOf, rosterHas, zoneIn, carIn, stands, placed}
+use Rattle.tables.specs.Derived.{before, levelAt, on, free}
 use Rattle.tables.specs.Sound.{Sound}
 use Rattle.tables.specs.Steps.{fresh, parked}
 use Rattle.tables.specs.Check.{sized}
 use Rattle.tables.specs.CheckLaws.{sized→}
-use Rattle.soundness.specs.Tests.{sound, every, recordsRight, freeAt, startRight, zoneFits, carFits, entriesRight, keyRight, parts, startsAbove, byteRight, has, countRight}
+use Rattle.tallies.specs.Counts.{counted}
+use Rattle.soundness.specs.Tests.{sound, every, recordsRight, freeAt, startRight, zoneFits, carFits, entriesRight, keyRight, parts, startsAbove, byteRight, has, tallyRight}
 use Rattle.soundness.specs.EveryLaws.{→every}
 use Rattle.soundness.specs.SoundnessLaws.{sound→}
 use Rattle.soundness.specs.SweepLaws.{entries-rest}
@@ -46,7 +48,7 @@ left-behind =
     (stairs 0 (7 ∷ 4 ∷ 13 ∷ 3 ∷ 1 ∷ 10 ∷ 2 ∷ 14 ∷ 2 ∷ 14 ∷ 3 ∷ 1 ∷ 32 ∷ 2 ∷ 29 ∷ 2 ∷ 23 ∷ 2 ∷ 6 ∷ 2 ∷ 21 ∷ 2 ∷ 6 ∷ 2 ∷ 23 ∷ 2 ∷ 6 ∷ 2 ∷ 21 ∷ 2 ∷ 6 ∷ 2 ∷ 23 ∷ 2 ∷ 29 ∷ 2 ∷ 14 ∷ []))
     (map (λ (p : ℕ). p * 256 + 1) places ++ replicate 2012 free)
     (replicate 1024 0)
-    (replicate 16 0)
+    (replicate 160 0)
 
 -- the test of soundness computes, but for the free marks
 
@@ -57,8 +59,8 @@ entries-right : entriesRight (shapeOf left-behind) 16 (left-behind .records .zon
 unfolding left-behind every keyRight sum cutTo inCut inside cornerX cornerY evens keep span levelAt before
 entries-right = sym (entries-rest (shapeOf left-behind) 16 (left-behind .records .zones) (left-behind .derived .entries) 36 (leb-true 36 (length (left-behind .derived .entries)) refl) refl refl 36 refl refl (replicate 2012 free) refl) ∙ all-free 2012
 
-rest-right : (every (startRight (left-behind .derived .starts) (left-behind .derived .entries) 36) 337 && (every (byteRight (shapeOf left-behind) (left-behind .records .zones) (left-behind .records .cars) (left-behind .records .spots) (left-behind .derived .rosters) 64) 1024 && every (countRight (left-behind .derived .rosters) (left-behind .derived .tallies) 64) 16)) ≡ true
-unfolding left-behind every parts endsBelow startsAbove byteRight has countRight keep span
+rest-right : (every (startRight (left-behind .derived .starts) (left-behind .derived .entries) 36) 337 && (every (byteRight (shapeOf left-behind) (left-behind .records .zones) (left-behind .records .cars) (left-behind .records .spots) (left-behind .derived .rosters) 64) 1024 && every (tallyRight (left-behind .records .cars) (left-behind .derived .rosters) (left-behind .derived .tallies) 64) 16)) ≡ true
+unfolding left-behind every parts endsBelow startsAbove byteRight has tallyRight counted lead leads keep span
 rest-right = refl
 
 records-right : recordsRight left-behind ≡ true

@@ -1,8 +1,8 @@
 -- An answer says which case of its enum it is: two that say the same are the same.
 use Prim.Native.Nat.{ℕ}
-use mathlib.Core.Path.{_≡_, refl, ap, sym, _∙_}
-use mathlib.Core.List.{List, [], _∷_}
-use Rattle.squares.specs.Refusals.{Answer, refuse, accept}
+use mathlib.Core.Path.{_≡_, refl, ap}
+use mathlib.Core.List.{List}
+use lib.ListN.{getD}
 use Rattle.model.specs.declared.answers.Opened.{Opened}
 use Rattle.model.specs.declared.answers.Added.{Added}
 use Rattle.model.specs.declared.answers.Removed.{Removed}
@@ -11,9 +11,11 @@ use Rattle.model.specs.declared.answers.Left.{Left}
 use Rattle.model.specs.declared.answers.Searched.{Searched}
 use Rattle.model.specs.declared.answers.RosterOf.{RosterOf}
 use Rattle.model.specs.declared.answers.CountOf.{CountOf}
+use Rattle.model.specs.declared.answers.HolderOf.{HolderOf}
+use Rattle.model.specs.declared.answers.Standing.{Standing}
 use Rattle.model.specs.declared.answers.WhereIs.{WhereIs}
 use Rattle.model.specs.declared.answers.SoundnessOf.{SoundnessOf}
-use Rattle.model.specs.Answers.{Values, openedIs, addedIs, removedIs, reportedIs, leftIs, searchedIs, rosterIs, countIs, whereIs, soundnessIs}
+use Rattle.model.specs.Answers.{openedIs, addedIs, removedIs, reportedIs, leftIs, searchedIs, rosterIs, countIs, standingIs, holderIs, whereIs, soundnessIs}
 
 pub opened-same : (a b : Opened) → openedIs a ≡ openedIs b → a ≡ b
 opened-same (Opened.Refused n) (Opened.Refused m) e = cc
@@ -62,6 +64,19 @@ count-same (CountOf.Refused n) (CountOf.Refused m) e = cc
 count-same (CountOf.Refused n) (CountOf.Cars i) e = cc
 count-same (CountOf.Cars i) (CountOf.Refused m) e = cc
 count-same (CountOf.Cars i) (CountOf.Cars j) e = cc
+
+-- a standing by its numbers
+abbrev standingOf : List ℕ → Standing
+standingOf l = record { team0 = getD l 0 0; team1 = getD l 1 0; team2 = getD l 2 0; team3 = getD l 3 0; team4 = getD l 4 0; team5 = getD l 5 0; team6 = getD l 6 0; team7 = getD l 7 0; holder = getD l 8 0 }
+
+standing-same : (a b : Standing) → standingIs a ≡ standingIs b → a ≡ b
+standing-same a b e = ap standingOf e
+
+pub holder-same : (a b : HolderOf) → holderIs a ≡ holderIs b → a ≡ b
+holder-same (HolderOf.Refused n) (HolderOf.Refused m) e = cc
+holder-same (HolderOf.Refused n) (HolderOf.Held s) e = cc
+holder-same (HolderOf.Held s) (HolderOf.Refused m) e = cc
+holder-same (HolderOf.Held s) (HolderOf.Held t) e = ap HolderOf.Held (standing-same s t cc)
 
 pub where-same : (a b : WhereIs) → whereIs a ≡ whereIs b → a ≡ b
 where-same (WhereIs.Refused n) (WhereIs.Refused m) e = cc

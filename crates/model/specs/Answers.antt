@@ -1,7 +1,6 @@
 -- What each case of each answer says: document 01's number, or its values.
 use Prim.Native.Nat.{ℕ}
 use mathlib.Core.List.{List, [], _∷_}
-use lib.ListN.{replicate}
 use Rattle.squares.specs.Refusals.{Answer, refuse, accept}
 use Rattle.position.specs.declared.Position.{Position}
 use Rattle.model.specs.declared.answers.Opened.{Opened}
@@ -12,6 +11,8 @@ use Rattle.model.specs.declared.answers.Left.{Left}
 use Rattle.model.specs.declared.answers.Searched.{Searched}
 use Rattle.model.specs.declared.answers.RosterOf.{RosterOf}
 use Rattle.model.specs.declared.answers.CountOf.{CountOf}
+use Rattle.model.specs.declared.answers.HolderOf.{HolderOf}
+use Rattle.model.specs.declared.answers.Standing.{Standing}
 use Rattle.model.specs.declared.answers.WhereIs.{WhereIs}
 use Rattle.model.specs.declared.answers.SoundnessOf.{SoundnessOf}
 
@@ -57,6 +58,14 @@ rosterIs (RosterOf.Cars cars) = accept (numbers (cars ∷ []))
 abbrev pub countIs : CountOf → Answer Values
 countIs (CountOf.Refused n) = refuse n
 countIs (CountOf.Cars cars) = accept (numbers (cars ∷ []))
+
+-- cars of each team in the zone, from team 0 on, and the holder
+abbrev pub standingIs : Standing → List ℕ
+standingIs s = s .team0 ∷ s .team1 ∷ s .team2 ∷ s .team3 ∷ s .team4 ∷ s .team5 ∷ s .team6 ∷ s .team7 ∷ s .holder ∷ []
+
+abbrev pub holderIs : HolderOf → Answer Values
+holderIs (HolderOf.Refused n) = refuse n
+holderIs (HolderOf.Held s) = accept (numbers (standingIs s))
 
 abbrev pub whereIs : WhereIs → Answer Values
 whereIs (WhereIs.Refused n) = refuse n

@@ -1,7 +1,10 @@
+pub mod Teams
 pub mod Answers
 pub mod Model
+pub mod TeamLaws
 pub mod AnswerLaws
 pub mod ModelLaws
 pub mod RosterLaws
 pub mod Whole
 pub mod Starred
+pub mod TeamCases

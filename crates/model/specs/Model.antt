@@ -17,6 +17,7 @@ use Rattle.squares.specs.Refusals.{Bar, first, Answer, refuse, accept, Result, 
 use Rattle.position.specs.declared.Position.{Position}
 use Rattle.position.specs.Answer.{onTown, columnOf, rowOf}
 use Rattle.model.specs.Answers.{Values, numbers, spot}
+use Rattle.model.specs.Teams.{lastTeam, lead, ranked}
 
 -- ---- a town
 
@@ -27,11 +28,16 @@ pub record Opening : Type 0 where
   pub cars : ℕ
   pub entries : ℕ
 
--- the opening, the rectangle of each zone that stands, the position of each car on the map
+-- a car on the map: its position, and its team, 0 for a spectator
+pub record Car : Type 0 where
+  pub position : Position
+  pub team : ℕ
+
+-- the opening, the rectangle of each zone that stands, each car on the map
 pub record Town : Type 0 where
   pub opening : Opening
   pub zone : ℕ → Option Rect
-  pub car : ℕ → Option Position
+  pub car : ℕ → Option Car
 
 -- before the first open
 abbrev pub nowhere : Town
@@ -55,11 +61,25 @@ abbrev pub holdsSpot : Town → ℕ → Position → Bool
 holdsSpot m z p = holdsCell m z (columnOf (m .opening .shape) p) (rowOf (m .opening .shape) p)
 
 abbrev pub holdsCar : Town → ℕ → ℕ → Bool
-holdsCar m z c = there (m .car c) (holdsSpot m z)
+holdsCar m z c = there (m .car c) (λ (a : Car). holdsSpot m z (a .position))
 
 -- the cars of a zone
 abbrev pub roster : Town → ℕ → List ℕ
 roster m z = keep (holdsCar m z) (upto (m .opening .cars))
+
+-- a car is on the map, for a team
+abbrev pub drivesFor : Town → ℕ → ℕ → Bool
+drivesFor m g c = there (m .car c) (λ (a : Car). eqb (a .team) g)
+
+-- how many of a zone's cars drive for a team; the team that holds the zone, 0 for nobody; for each team in turn, and the holder
+abbrev pub squad : Town → ℕ → ℕ → ℕ
+squad m z g = length (keep (drivesFor m g) (roster m z))
+
+abbrev pub holder : Town → ℕ → ℕ
+holder m z = lead (squad m z)
+
+abbrev pub standing : Town → ℕ → List ℕ
+standing m z = ranked (squad m z)
 
 -- the zones that hold a position; those that have a car
 abbrev pub zonesAt : Town → Position → List ℕ
@@ -76,9 +96,9 @@ abbrev pub zonesLeft : Town → ℕ → Position → List ℕ
 zonesLeft m c p = keep (λ (z : ℕ). holdsCar m z c && not (holdsSpot m z p)) (upto (m .opening .zones))
 
 -- squares looked into: twice the levels on which the old cell and the new one lie in different squares; with no old cell, the levels
-abbrev pub looked : Shape → Option Position → Position → ℕ
+abbrev pub looked : Shape → Option Car → Position → ℕ
 looked s none p = s .k + 1
-looked s (some q) p = 2 * length (differ s (columnOf s q) (rowOf s q) (columnOf s p) (rowOf s p))
+looked s (some a) p = 2 * length (differ s (columnOf s (a .position)) (rowOf s (a .position)) (columnOf s p) (rowOf s p))
 
 -- standing entries: the squares of the standing zones' cuts
 abbrev pub cutSize : Shape → Option Rect → ℕ
@@ -95,11 +115,12 @@ pub data Call : Type 0 where
   opening : (o : Opening) → Call
   adding : (z : ℕ) (r : Rect) → Call
   removing : (z : ℕ) → Call
-  reporting : (c : ℕ) (p : Position) (entered left : List ℕ) → Call
+  reporting : (c g : ℕ) (p : Position) (entered left : List ℕ) → Call
   leaving : (c : ℕ) (left : List ℕ) → Call
   searching : (p : Position) (found : List ℕ) → Call
   askRoster : (z : ℕ) (inside : List ℕ) → Call
   askCount : (z : ℕ) → Call
+  askHolder : (z : ℕ) → Call
   askWhere : (c : ℕ) → Call
   askSoundness : Call
 
@@ -114,7 +135,7 @@ pub data Change : Type 0 where
   emptied : (o : Opening) → Change
   zoneOn : (z : ℕ) (r : Rect) → Change
   zoneOff : (z : ℕ) → Change
-  carAt : (c : ℕ) (p : Position) → Change
+  carAt : (c : ℕ) (a : Car) → Change
   carOff : (c : ℕ) → Change
   nothing : Change
 
@@ -123,11 +144,12 @@ abbrev pub changeOf : Call → Change
 changeOf (opening o) = emptied o
 changeOf (adding z r) = zoneOn z r
 changeOf (removing z) = zoneOff z
-changeOf (reporting c p entered left) = carAt c p
+changeOf (reporting c g p entered left) = carAt c (record { position = p; team = g })
 changeOf (leaving c left) = carOff c
 changeOf (searching p found) = nothing
 changeOf (askRoster z inside) = nothing
 changeOf (askCount z) = nothing
+changeOf (askHolder z) = nothing
 changeOf (askWhere c) = nothing
 changeOf askSoundness = nothing
 
@@ -146,7 +168,7 @@ abbrev pub after : Change → Town → Town
 after (emptied o) m = record { opening = o; zone = λ (z : ℕ). none; car = λ (c : ℕ). none }
 after (zoneOn z r) m = record { opening = m .opening; zone = except z (some r) (m .zone); car = m .car }
 after (zoneOff z) m = record { opening = m .opening; zone = except z none (m .zone); car = m .car }
-after (carAt c p) m = record { opening = m .opening; zone = m .zone; car = except c (some p) (m .car) }
+after (carAt c a) m = record { opening = m .opening; zone = m .zone; car = except c (some a) (m .car) }
 after (carOff c) m = record { opening = m .opening; zone = m .zone; car = except c none (m .car) }
 after nothing m = m
 
@@ -179,9 +201,14 @@ pub record Meaning : Type 0 where
   pub trusts : Gap
 
 -- where a car is
-abbrev pub spotted : Option Position → Values
+abbrev pub spotted : Option Car → Values
 spotted none = numbers []
-spotted (some p) = spot p
+spotted (some a) = spot (a .position)
+
+-- a team that a car may report: at most 7, and on the map the one that it has
+abbrev pub teamed : Option Car → ℕ → Bool
+teamed none g = leb g lastTeam
+teamed (some a) g = leb g lastTeam && eqb g (a .team)
 
 unfoldable pub meaning : Lengths → Town → Call → Meaning
 meaning l m (opening o) = record {
@@ -205,8 +232,8 @@ meaning l m (removing z) = record {
   gives = λ sound. numbers [];
   trusts = gap;
 }
-meaning l m (reporting c p entered left) = record {
-  checks = (l .own, 3) ∷ (ltb c (m .opening .cars), 5) ∷ (onTown (m .opening .shape) p, 10) ∷ (leb (m .opening .zones) (length entered), 11) ∷ (leb (m .opening .zones) (length left), 11) ∷ [];
+meaning l m (reporting c g p entered left) = record {
+  checks = (l .own, 3) ∷ (ltb c (m .opening .cars), 5) ∷ (teamed (m .car c) g, 15) ∷ (onTown (m .opening .shape) p, 10) ∷ (leb (m .opening .zones) (length entered), 11) ∷ (leb (m .opening .zones) (length left), 11) ∷ [];
   late = [];
   writes = (zonesEntered m c p, entered) ∷ (zonesLeft m c p, left) ∷ [];
   gives = λ sound. numbers (looked (m .opening .shape) (m .car c) p ∷ length (zonesEntered m c p) ∷ length (zonesLeft m c p) ∷ []);
@@ -238,6 +265,13 @@ meaning l m (askCount z) = record {
   late = [];
   writes = [];
   gives = λ sound. numbers (length (roster m z) ∷ []);
+  trusts = gap;
+}
+meaning l m (askHolder z) = record {
+  checks = (l .own, 3) ∷ (ltb z (m .opening .zones), 4) ∷ (known (m .zone z), 7) ∷ [];
+  late = [];
+  writes = [];
+  gives = λ sound. numbers (standing m z);
   trusts = gap;
 }
 meaning l m (askWhere c) = record {

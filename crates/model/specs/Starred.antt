@@ -42,7 +42,7 @@ middle x y = record { x = ofBits binary32 x; y = ofBits binary32 y }
 
 -- squares looked into by a report from one position to another
 abbrev lookedInto : Position → Position → ℕ
-lookedInto p q = looked town (some p) q
+lookedInto p q = looked town (some (record { position = p; team = 0 })) q
 
 -- the cell of a float's bits as x in a town, and the number that refuses a search there, or 0
 abbrev searched : Shape → ℕ → ℕ

@@ -3,7 +3,7 @@ use Prim.Native.Nat.{ℕ}
 use mathlib.Core.Path.{_≡_, refl}
 use mathlib.Core.Bool.{true}
 use mathlib.Core.List.{List, [], _∷_}
-use mathlib.Core.Option.{Option, none, some}
+use mathlib.Core.Option.{none}
 use lib.Ieee.{binary32, ofBits, toBits, isNan}
 use lib.ListN.{replicate}
 use Rattle.order.specs.Order.{span, keep}
@@ -12,12 +12,12 @@ use Rattle.squares.specs.declared.shape.Rect.{Rect}
 use Rattle.squares.specs.Shape.{shape}
 use Rattle.squares.specs.Squares.{number, cornerX, cornerY, interleave, evens}
 use Rattle.cuts.specs.Cut.{cutTo, inCut, inside}
-use Rattle.squares.specs.Refusals.{first, Answer, refuse, accept, Result}
+use Rattle.squares.specs.Refusals.{first, Answer, refuse, accept}
 use Rattle.position.specs.declared.Position.{Position}
 use Rattle.position.specs.Cell.{whole, inRange, onMap, cellOf}
 use Rattle.position.specs.Answer.{onTown, columnOf, rowOf}
 use Rattle.model.specs.Answers.{Values, numbers}
-use Rattle.model.specs.Model.{Opening, Town, nowhere, Call, opening, adding, removing, reporting, leaving, askRoster, askCount, Event, change, after, Lengths, meaning, outcome}
+use Rattle.model.specs.Model.{Opening, Town, nowhere, Call, opening, adding, removing, reporting, leaving, askRoster, askCount, change, after, Lengths, meaning, outcome}
 
 -- the log's capacities; tables with the lengths of the town
 unfoldable pub asked : Opening
@@ -60,10 +60,10 @@ unfoldable pub added : Town
 added = next opened (adding 1 (rect 5 2 8 12))
 
 unfoldable pub entered : Town
-entered = next added (reporting 7 near zones zones)
+entered = next added (reporting 7 0 near zones zones)
 
 unfoldable pub moved : Town
-moved = next entered (reporting 7 far zones zones)
+moved = next entered (reporting 7 0 far zones zones)
 
 unfoldable pub barred : Town
 barred = next moved (adding 1 (rect 0 0 1 1))
@@ -90,12 +90,12 @@ unfolding asked rect at next opened added entered moved barred left removed agai
 add-answers = refl
 
 -- P 7 40B00000 40400000    -> P 0 3 1 -
-pub enter-answers : Answers added (reporting 7 near zones zones) ((1 ∷ replicate 15 0) ∷ zones ∷ []) (accept (numbers (3 ∷ 1 ∷ 0 ∷ [])))
+pub enter-answers : Answers added (reporting 7 0 near zones zones) ((1 ∷ replicate 15 0) ∷ zones ∷ []) (accept (numbers (3 ∷ 1 ∷ 0 ∷ [])))
 unfolding asked rect at next opened added entered moved barred left removed again meaning first keep span sum onTown columnOf rowOf onMap inRange whole cellOf ofBits toBits isNan number interleave cutTo inCut inside cornerX cornerY evens
 enter-answers = refl
 
 -- P 7 41200000 41300000    -> P 0 6 - -
-pub move-answers : Answers entered (reporting 7 far zones zones) (zones ∷ zones ∷ []) (accept (numbers (6 ∷ 0 ∷ 0 ∷ [])))
+pub move-answers : Answers entered (reporting 7 0 far zones zones) (zones ∷ zones ∷ []) (accept (numbers (6 ∷ 0 ∷ 0 ∷ [])))
 unfolding asked rect at next opened added entered moved barred left removed again meaning first keep span sum onTown columnOf rowOf onMap inRange whole cellOf ofBits toBits isNan number interleave cutTo inCut inside cornerX cornerY evens
 move-answers = refl
 

@@ -47,6 +47,25 @@ pub enum CountOf {
     Cars(u32),
 }
 
+// How many cars of each team are in a zone, and the team that holds it, 0 for nobody.
+pub struct Standing {
+    pub team0: u32,
+    pub team1: u32,
+    pub team2: u32,
+    pub team3: u32,
+    pub team4: u32,
+    pub team5: u32,
+    pub team6: u32,
+    pub team7: u32,
+    pub holder: u32,
+}
+
+// How a zone stands between the teams.
+pub enum HolderOf {
+    Refused(u32),
+    Held(Standing),
+}
+
 // Where a car is: its stored position.
 pub enum WhereIs {
     Refused(u32),

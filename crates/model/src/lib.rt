@@ -3,6 +3,7 @@ mod answers; // answers.rt: what the calls answer
 
 pub use answers::Added;
 pub use answers::CountOf;
+pub use answers::HolderOf;
 pub use answers::Left;
 pub use answers::Opened;
 pub use answers::Removed;
@@ -10,4 +11,5 @@ pub use answers::Reported;
 pub use answers::RosterOf;
 pub use answers::Searched;
 pub use answers::SoundnessOf;
+pub use answers::Standing;
 pub use answers::WhereIs;

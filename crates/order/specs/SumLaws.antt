@@ -12,7 +12,7 @@ use lib.ListN.{length, length-append}
 use borrow.Author.Tests.{le-leb, lt-leb, lt-ltb, le-ltb}
 use Rattle.order.specs.Order.{upto, span, keep}
 use Rattle.order.specs.Sums.{sum, bit}
-use Rattle.order.specs.TestLaws.{lt-or-le}
+use Rattle.order.specs.TestLaws.{lt-or-le, lt-or-eq-or-gt}
 use Rattle.order.specs.KeepLaws.{span-add, keep-append}
 
 pub sum-ext : (f g : ℕ → ℕ) (n : ℕ) → ((i : ℕ) → i < n → f i ≡ g i) → sum f n ≡ sum g n
@@ -88,3 +88,24 @@ count-between lo hi n h =
     past : (b : Bool) → bit (b && false) ≡ 0
     past true = refl
     past false = refl
+
+-- ---- one number that differs
+
+-- two sums that differ in one number, which was 0
+pub sum-one : (f g : ℕ → ℕ) (n z : ℕ) → z < n → ((i : ℕ) → (i ≡ z → ⊥) → f i ≡ g i) → g z ≡ 0 → sum f n ≡ sum g n + f z
+unfolding sum
+sum-one f g zero z h same empty = absurd (omega arith)
+sum-one f g (suc n) z h same empty = ⊎-elim
+    (λ (l : z < n). omega (arith, sum-one f g n z l same empty, same n (λ (e : n ≡ z). omega arith)))
+    (⊎-elim
+    (λ (e : z ≡ n). rw e (omega (arith, sum-ext f g n (λ i l. same i (λ (q : i ≡ z). omega arith)), ap g (sym e) ∙ empty)))
+    (λ (l : n < z). absurd (omega arith)))
+    (lt-or-eq-or-gt z n)
+
+-- a sum all of whose numbers but one are 0
+pub sum-only : (f : ℕ → ℕ) (n z : ℕ) → z < n → ((i : ℕ) → (i ≡ z → ⊥) → f i ≡ 0) → sum f n ≡ f z
+sum-only f n z h same = sum-one f (λ (i : ℕ). 0) n z h same refl ∙ ap (λ (m : ℕ). m + f z) (sum-none (λ (i : ℕ). 0) n (λ i l. refl)) ∙ zero-add (f z)
+
+-- one number more that has a property
+pub count-one : (p q : ℕ → Bool) (n z : ℕ) → z < n → ((i : ℕ) → (i ≡ z → ⊥) → p i ≡ q i) → p z ≡ true → q z ≡ false → length (keep p (upto n)) ≡ length (keep q (upto n)) + 1
+count-one p q n z h same e f = count-sum p n ∙ sum-one (λ (i : ℕ). bit (p i)) (λ (i : ℕ). bit (q i)) n z h (λ i g. ap bit (same i g)) (ap bit f) ∙ ap₂ _+_ (sym (count-sum q n)) (ap bit e)

@@ -17,6 +17,9 @@ lt-or-le a b = go (ltb a b) refl
 pub lt-or-eq-or-gt : (a b : ℕ) → (a < b) ⊎ ((a ≡ b) ⊎ (b < a))
 lt-or-eq-or-gt a b = ⊎-elim (λ (h : a < b). inl h) (λ (h : b ≤ a). inr (⊎-elim (λ (g : b < a). inr g) (λ (g : a ≤ b). inl (omega arith)) (lt-or-le b a))) (lt-or-le a b)
 
+pub same-or-other : (a b : ℕ) → (a ≡ b) ⊎ (a ≡ b → ⊥)
+same-or-other a b = ⊎-elim (λ (h : a < b). inr (λ (e : a ≡ b). omega arith)) (⊎-elim (λ (e : a ≡ b). inl e) (λ (h : b < a). inr (λ (e : a ≡ b). omega arith))) (lt-or-eq-or-gt a b)
+
 pub true-or-false : (t : Bool) → (t ≡ true) ⊎ (t ≡ false)
 true-or-false true = inl refl
 true-or-false false = inr refl

@@ -14,10 +14,11 @@ use Rattle.model.specs.declared.answers.Left.{Left}
 use Rattle.model.specs.declared.answers.Searched.{Searched}
 use Rattle.model.specs.declared.answers.RosterOf.{RosterOf}
 use Rattle.model.specs.declared.answers.CountOf.{CountOf}
+use Rattle.model.specs.declared.answers.HolderOf.{HolderOf}
 use Rattle.model.specs.declared.answers.WhereIs.{WhereIs}
 use Rattle.model.specs.declared.answers.SoundnessOf.{SoundnessOf}
-use Rattle.model.specs.Answers.{Values, openedIs, addedIs, removedIs, reportedIs, leftIs, searchedIs, rosterIs, countIs, whereIs, soundnessIs}
-use Rattle.model.specs.Model.{Opening, Call, opening, adding, removing, reporting, leaving, searching, askRoster, askCount, askWhere, askSoundness, Event}
+use Rattle.model.specs.Answers.{Values, openedIs, addedIs, removedIs, reportedIs, leftIs, searchedIs, rosterIs, countIs, holderIs, whereIs, soundnessIs}
+use Rattle.model.specs.Model.{Opening, Call, opening, adding, removing, reporting, leaving, searching, askRoster, askCount, askHolder, askWhere, askSoundness, Event}
 use Rattle.tables.specs.Lent.{Slice}
 
 abbrev pub event : Call → List (List ℕ) → Answer Values → Event
@@ -36,8 +37,8 @@ added z r answer = event (adding z r) [] (addedIs answer)
 abbrev pub removed : ℕ → Removed → Event
 removed z answer = event (removing z) [] (removedIs answer)
 
-abbrev pub reported : ℕ → Position → Slice ℕ → Slice ℕ → Reported → Event
-reported c p entered left answer = event (reporting c p (now (entered .entry)) (now (left .entry))) (now (entered .exit) ∷ now (left .exit) ∷ []) (reportedIs answer)
+abbrev pub reported : ℕ → ℕ → Position → Slice ℕ → Slice ℕ → Reported → Event
+reported c g p entered left answer = event (reporting c g p (now (entered .entry)) (now (left .entry))) (now (entered .exit) ∷ now (left .exit) ∷ []) (reportedIs answer)
 
 abbrev pub leftMap : ℕ → Slice ℕ → Left → Event
 leftMap c left answer = event (leaving c (now (left .entry))) (now (left .exit) ∷ []) (leftIs answer)
@@ -50,6 +51,9 @@ rosterTold z inside answer = event (askRoster z (now (inside .entry))) (now (ins
 
 abbrev pub countTold : ℕ → CountOf → Event
 countTold z answer = event (askCount z) [] (countIs answer)
+
+abbrev pub holderTold : ℕ → HolderOf → Event
+holderTold z answer = event (askHolder z) [] (holderIs answer)
 
 abbrev pub whereTold : ℕ → WhereIs → Event
 whereTold c answer = event (askWhere c) [] (whereIs answer)

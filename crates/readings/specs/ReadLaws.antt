@@ -1,4 +1,4 @@
--- What a roster, a count and a where that are not barred have, and how they keep the promise.
+-- What a roster, a count, a holder and a where that are not barred have, and how they keep the promise.
 use Prim.Native.Nat.{ℕ, _*_, _<_, _≤_}
 use mathlib.Core.Path.{_≡_, refl, ap, sym, _∙_}
 use mathlib.Core.Bool.{true}
@@ -11,24 +11,26 @@ use Rattle.order.specs.Order.{upto, over}
 use Rattle.order.specs.Order.{Wrote}
 use Rattle.order.specs.BufferLaws.{wrote-over}
 use Rattle.order.specs.KeepLaws.{length-keep, length-span}
-use Rattle.squares.specs.Refusals.{first}
+use Rattle.squares.specs.Refusals.{first, giving}
 use Rattle.squares.specs.RefusalLaws.{clear}
 use Rattle.model.specs.declared.answers.WhereIs.{WhereIs}
 use Rattle.model.specs.declared.answers.RosterOf.{RosterOf}
 use Rattle.model.specs.declared.answers.CountOf.{CountOf}
-use Rattle.model.specs.Answers.{numbers, spot, whereIs, rosterIs}
-use Rattle.model.specs.Model.{askWhere, askRoster, askCount, holdsCar, roster, meaning}
+use Rattle.model.specs.declared.answers.HolderOf.{HolderOf}
+use Rattle.model.specs.Answers.{numbers, spot, standingIs, rosterIs}
+use Rattle.model.specs.Model.{askWhere, askRoster, askCount, askHolder, holdsCar, roster, meaning}
 use Rattle.tables.specs.Tables.{Tables, tally, zoneRoom, carRoom, placed, spotOf, townOf, rosterHas}
+use Rattle.tables.specs.Slots.{standingIn}
 use Rattle.tables.specs.Sizes.{Sized}
 use Rattle.tables.specs.CheckLaws.{sized→}
 use Rattle.tables.specs.RecordLaws.{placed-known, car-in}
 use Rattle.tables.specs.Sound.{Sound}
 use Rattle.tables.specs.Rows.{row}
 use Rattle.tables.specs.RowLaws.{sound-row}
-use Rattle.tables.specs.TallyLaws.{count-sound}
+use Rattle.tables.specs.TallyLaws.{count-sound, standing-sound}
 use Rattle.tables.specs.Lent.{both}
 use Rattle.promises.specs.Promise.{means, bars, Keeps}
-use Rattle.promises.specs.Events.{event, countTold, whereTold}
+use Rattle.promises.specs.Events.{event, countTold, holderTold, whereTold}
 use Rattle.promises.specs.PromiseLaws.{keeps-done}
 use Rattle.promises.specs.StandingLaws.{There}
 
@@ -85,3 +87,10 @@ module _ {t : Tables} {z : ℕ} {b : List ℕ} (ok : Standing t z b) where
 pub count-kept : {t : Tables} {z : ℕ} → There t z → Keeps (both t t) (countTold z (CountOf.Cars (getD (t .derived .tallies) (z * tally) 0)))
 unfolding meaning first
 count-kept {t} {z} ok = keeps-done t (askCount z) _ t (numbers (getD (t .derived .tallies) (z * tally) 0 ∷ [])) (ok .none) refl (λ any sound. (refl, (rw (count-sound t sound z (ok .zone)), refl)))
+
+-- ---- holder
+
+-- the stored numbers are the teams' and the holder
+pub holder-kept : {t : Tables} {z : ℕ} → There t z → Keeps (both t t) (holderTold z (HolderOf.Held (standingIn (t .derived .tallies) z)))
+unfolding meaning first
+holder-kept {t} {z} ok = keeps-done t (askHolder z) _ t (numbers (standingIs (standingIn (t .derived .tallies) z))) (ok .none) refl (λ any sound. (refl, (ap (λ (told : List ℕ). giving [] (numbers told)) (standing-sound t sound z (ok .zone)), refl)))

@@ -8,7 +8,7 @@ use Rattle.squares.specs.Shape.{shape, allowed}
 use Rattle.squares.specs.ShapeLaws.{allowed→}
 use Rattle.squares.specs.Refusals.{Answer, refuse, accept}
 use Rattle.model.specs.Answers.{Values}
-use Rattle.model.specs.Model.{Call, opening, adding, removing, reporting, leaving, searching, askRoster, askCount, askWhere, askSoundness, Event, Change, emptied, nothing, changeOf, changeBy, change, after}
+use Rattle.model.specs.Model.{Call, opening, adding, removing, reporting, leaving, searching, askRoster, askCount, askHolder, askWhere, askSoundness, Event, Change, emptied, nothing, changeOf, changeBy, change, after}
 use Rattle.tables.specs.Tables.{Tables, shapeOf, townOf}
 use Rattle.tables.specs.CheckLaws.{roomy→}
 use Rattle.tables.specs.Sound.{Sound}
@@ -38,11 +38,12 @@ head-kept t call town (refuse n) = refl
 head-kept t (opening o) town (accept v) = absurd (true-not-false false town refl)
 head-kept t (adding z r) town (accept v) = refl
 head-kept t (removing z) town (accept v) = refl
-head-kept t (reporting c p entered left) town (accept v) = refl
+head-kept t (reporting c g p entered left) town (accept v) = refl
 head-kept t (leaving c left) town (accept v) = refl
 head-kept t (searching p found) town (accept v) = refl
 head-kept t (askRoster z inside) town (accept v) = refl
 head-kept t (askCount z) town (accept v) = refl
+head-kept t (askHolder z) town (accept v) = refl
 head-kept t (askWhere c) town (accept v) = refl
 head-kept t askSoundness town (accept v) = refl
 
@@ -93,7 +94,7 @@ module _ {t : Tables} (ready : Ready t) where
   ready-after (Open k P Q) = then-opening k P Q .ready
   ready-after (Add z a b w h) = then-call (adding z (record { a = a; b = b; w = w; h = h })) refl .ready
   ready-after (Remove z) = then-call (removing z) refl .ready
-  ready-after (Report c x y) = then-call (reporting c (positionOf x y) (blank 16) (blank 16)) refl .ready
+  ready-after (Report c x y) = then-call (reporting c 0 (positionOf x y) (blank 16) (blank 16)) refl .ready
   ready-after (Leave c) = then-call (leaving c (blank 16)) refl .ready
   ready-after (Search x y) = then-call (searching (positionOf x y) (blank 16)) refl .ready
   ready-after (Roster z) = then-call (askRoster z (blank 64)) refl .ready
@@ -103,7 +104,7 @@ module _ {t : Tables} (ready : Ready t) where
   town-after (Open k P Q) = then-opening k P Q .town
   town-after (Add z a b w h) = then-call (adding z (record { a = a; b = b; w = w; h = h })) refl .town
   town-after (Remove z) = then-call (removing z) refl .town
-  town-after (Report c x y) = then-call (reporting c (positionOf x y) (blank 16) (blank 16)) refl .town
+  town-after (Report c x y) = then-call (reporting c 0 (positionOf x y) (blank 16) (blank 16)) refl .town
   town-after (Leave c) = then-call (leaving c (blank 16)) refl .town
   town-after (Search x y) = then-call (searching (positionOf x y) (blank 16)) refl .town
   town-after (Roster z) = then-call (askRoster z (blank 64)) refl .town

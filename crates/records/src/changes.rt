@@ -123,7 +123,7 @@ pub fn remove_record(
     write_removed(answer, out)
 }
 
-// P: a car placed or moved.
+// P: a car placed or moved. A log has no teams: each car's is 0.
 pub fn report_record(
     head: &[u32],
     zones: &[u32],
@@ -154,6 +154,7 @@ pub fn report_record(
         rosters,
         tallies,
         car,
+        0,
         position_of(x, y),
         &mut entered,
         &mut left,

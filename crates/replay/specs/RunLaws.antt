@@ -15,8 +15,7 @@ use Rattle.squares.specs.declared.shape.Rect.{Rect}
 use Rattle.squares.specs.Shape.{allowed}
 use Rattle.squares.specs.Refusals.{first}
 use Rattle.squares.specs.RefusalLaws.{by-refusal}
-use Rattle.position.specs.declared.Position.{Position}
-use Rattle.model.specs.Model.{Town, nowhere}
+use Rattle.model.specs.Model.{Car, Town, nowhere}
 use Rattle.tables.specs.Tables.{Tables, tally, stands, placed, zoneIn, carIn, rectOf, spotOf, shapeOf, townOf}
 use Rattle.tables.specs.Lent.{both}
 use Rattle.line.specs.Grammar.{meaning}
@@ -131,13 +130,13 @@ zeros-at (suc n) (suc i) = zeros-at n i
 
 pub town-start : townOf start ≡ nowhere
 unfolding zoneIn carIn stands placed
-town-start = ap₂ (λ (zone : ℕ → Option Rect) (car : ℕ → Option Position). record { opening = nowhere .opening; zone = zone; car = car }) (fun-ext zone-none) (fun-ext car-none)
+town-start = ap₂ (λ (zone : ℕ → Option Rect) (car : ℕ → Option Car). record { opening = nowhere .opening; zone = zone; car = car }) (fun-ext zone-none) (fun-ext car-none)
   where
     zone-none : (z : ℕ) → zoneIn start z ≡ none
     zone-none z = ap (λ (w : ℕ). cond (ltb 0 w) (some (rectOf start z)) none) (zeros-at 64 (4 * z + 2))
 
     car-none : (c : ℕ) → carIn start c ≡ none
-    car-none c = ap (λ (w : ℕ). cond (ltb 0 w) (some (spotOf start c)) none) (zeros-at 64 c)
+    car-none c = ap (λ (w : ℕ). cond (ltb 0 w) (some (record { position = spotOf start c; team = w - 1 })) none) (zeros-at 64 c)
 
 closed : allowed (shapeOf start) ≡ false
 closed = refl

@@ -34,12 +34,13 @@ blank n = replicate n 0
 abbrev pub Line : Type 0
 Line = Option (Letter × Call)
 
+-- a log has no teams: every car reports team 0
 abbrev pub callOf : Record → Line
 callOf Bad = none
 callOf (Open k P Q) = some (Letter.M, opening (openingOf k P Q))
 callOf (Add z a b w h) = some (Letter.A, adding z (record { a = a; b = b; w = w; h = h }))
 callOf (Remove z) = some (Letter.D, removing z)
-callOf (Report c x y) = some (Letter.P, reporting c (positionOf x y) (blank 16) (blank 16))
+callOf (Report c x y) = some (Letter.P, reporting c 0 (positionOf x y) (blank 16) (blank 16))
 callOf (Leave c) = some (Letter.L, leaving c (blank 16))
 callOf (Search x y) = some (Letter.S, searching (positionOf x y) (blank 16))
 callOf (Roster z) = some (Letter.R, askRoster z (blank 64))

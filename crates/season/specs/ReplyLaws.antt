@@ -16,8 +16,10 @@ use Rattle.squares.specs.Shape.{allowed}
 use Rattle.cuts.specs.Cut.{cut}
 use Rattle.squares.specs.Refusals.{Bar, unless, first, Result, result}
 use Rattle.squares.specs.RefusalLaws.{stops, clear}
+use Rattle.position.specs.declared.Position.{Position}
+use Rattle.position.specs.Answer.{onTown}
 use Rattle.model.specs.Answers.{Values}
-use Rattle.model.specs.Model.{Town, known, roster, zonesAt, zonesOf, zonesEntered, zonesLeft, looked, Call, opening, adding, removing, reporting, leaving, searching, askRoster, askCount, askWhere, askSoundness, zoneOn, changeOf, changeBy, after, Meaning, meaning}
+use Rattle.model.specs.Model.{Town, known, roster, zonesAt, zonesOf, zonesEntered, zonesLeft, looked, teamed, Call, opening, adding, removing, reporting, leaving, searching, askRoster, askCount, askHolder, askWhere, askSoundness, zoneOn, changeOf, changeBy, after, Meaning, meaning}
 use Rattle.line.specs.declared.records.Record.{Record}
 use Rattle.line.specs.declared.records.Record.the-variants.{Bad, Open, Add, Remove, Report, Leave, Search, Roster}
 use Rattle.print.specs.Text.{digits, number, members, parts}
@@ -61,11 +63,12 @@ module _ (m : Town) where
   tests-apart (opening o) = refl
   tests-apart (adding z r) = refl
   tests-apart (removing z) = refl
-  tests-apart (reporting c p entered left) = refl
+  tests-apart (reporting c g p entered left) = refl
   tests-apart (leaving c left) = refl
   tests-apart (searching p found) = refl
   tests-apart (askRoster z inside) = refl
   tests-apart (askCount z) = refl
+  tests-apart (askHolder z) = refl
   tests-apart (askWhere c) = refl
   tests-apart askSoundness = refl
 
@@ -91,6 +94,14 @@ module _ (m : Town) where
     →accepted : first (tests call) ≡ 0 → accepting (bare m (some (letter, call))) ≡ true
     unfolding digits
     →accepted e = ap (λ (n : ℕ). accepting (replies n)) e
+
+    -- refused: the reply has the number alone
+    refused→ : (n : ℕ) → first (tests call) ≡ n → (n ≡ 0 → ⊥) → bare m (some (letter, call)) ≡ byte letter ∷ parts (number n ∷ [])
+    refused→ n e f = ap replies e ∙ go n f
+      where
+        go : (n : ℕ) → (n ≡ 0 → ⊥) → replies n ≡ byte letter ∷ parts (number n ∷ [])
+        go zero f = absurd (f refl)
+        go (suc n) f = refl
 
   -- ---- the town after a line
 
@@ -133,11 +144,12 @@ module _ (m : Town) (h : Proper m) where
       go : (j : ℕ) (t : Bool) → known (cond t none (m .zone j)) ≡ true → Within m j
       go j true k = absurd (true-not-false false k refl)
       go j false k = h j k
-  proper-after (reporting c p entered left) e = h
+  proper-after (reporting c g p entered left) e = h
   proper-after (leaving c left) e = h
   proper-after (searching p found) e = h
   proper-after (askRoster z inside) e = h
   proper-after (askCount z) e = h
+  proper-after (askHolder z) e = h
   proper-after (askWhere c) e = h
   proper-after askSoundness e = h
 
@@ -201,9 +213,24 @@ module _ (m : Town) where
   unfolding meaning
   report-reply c x y a =
       let p = positionOf x y in
-      let call = reporting c p (blank 16) (blank 16) in
+      let call = reporting c 0 p (blank 16) (blank 16) in
       let g = accepted→ m Letter.P call a in
       (clear (tests m call) refl (g .0) .0, g .1 ∙ ap₂ (λ (entered left : List ℕ). 80 ∷ parts (number 0 ∷ number (looked (m .opening .shape) (m .car c) p) ∷ members entered ∷ members left ∷ [])) (take-over (zonesEntered m c p) (blank 16)) (take-over (zonesLeft m c p) (blank 16)))
+
+  -- the number that refuses a report of the team that the car has, or 0
+  abbrev pub reportBar : ℕ → Position → ℕ
+  reportBar c p = first ((allowed (m .opening .shape), 3) ∷ (ltb c (m .opening .cars), 5) ∷ (onTown (m .opening .shape) p, 10) ∷ [])
+
+  module _ (c x y : ℕ) (own : teamed (m .car c) 0 ≡ true) (few : leb (m .opening .zones) 16 ≡ true) where
+    report-tests : first (tests m (reporting c 0 (positionOf x y) (blank 16) (blank 16))) ≡ reportBar c (positionOf x y)
+    unfolding meaning first
+    report-tests = rw (own, few)
+
+    pub report-accepts : reportBar c (positionOf x y) ≡ 0 → accepting (replyTo (Report c x y)) ≡ true
+    report-accepts e = →accepted m Letter.P (reporting c 0 (positionOf x y) (blank 16) (blank 16)) (report-tests ∙ e)
+
+    pub report-refuses : (reportBar c (positionOf x y) ≡ 0 → ⊥) → replyTo (Report c x y) ≡ 80 ∷ parts (number (reportBar c (positionOf x y)) ∷ [])
+    report-refuses f = refused→ m Letter.P (reporting c 0 (positionOf x y) (blank 16) (blank 16)) (reportBar c (positionOf x y)) report-tests f
 
   pub leave-reply : (c : ℕ) → accepting (replyTo (Leave c)) ≡ true → IsOpen m × (replyTo (Leave c) ≡ 76 ∷ parts (number 0 ∷ number (m .opening .shape .k + 1) ∷ members (zonesOf m c) ∷ []))
   unfolding meaning

@@ -3,15 +3,16 @@ use Prim.Native.Nat.{ℕ}
 use mathlib.Core.Bool.{Bool, cond, not, _&&_}
 use mathlib.Core.List.{List, [], _∷_}
 use mathlib.Core.Option.{Option, none, some}
-use lib.Dec.{eqb}
+use lib.Dec.{ltb, eqb}
 use lib.ListN.{getD}
 use Rattle.order.specs.Order.{upto, keep}
 use Rattle.squares.specs.declared.shape.Shape.{Shape}
 use Rattle.squares.specs.declared.shape.Rect.{Rect}
-use Rattle.squares.specs.Shape.{shape, holds}
+use Rattle.squares.specs.Shape.{shape, allowed, holds}
+use Rattle.squares.specs.Refusals.{first}
 use Rattle.position.specs.declared.Position.{Position}
-use Rattle.position.specs.Answer.{columnOf, rowOf}
-use Rattle.model.specs.Model.{there}
+use Rattle.position.specs.Answer.{onTown, columnOf, rowOf}
+use Rattle.model.specs.Model.{Car, there}
 use Rattle.line.specs.declared.records.Record.{Record}
 use Rattle.line.specs.declared.records.Record.the-variants.{Bad, Open, Add, Remove, Report, Leave, Search, Roster}
 use Rattle.line.specs.Grammar.{meaning}
@@ -83,6 +84,11 @@ lastAdd z ts = lastWord (zoneSays z) none ts
 abbrev pub lastReport : ℕ → List Told → Option Position
 lastReport c ts = lastWord (carSays c) none ts
 
+-- the car at a report's position: a log has no teams, so its team is 0
+abbrev pub carBy : Option Position → Option Car
+carBy none = none
+carBy (some p) = some (record { position = p; team = 0 })
+
 -- ---- counted by hand
 
 -- the zone holds the position's cell
@@ -109,3 +115,7 @@ left ts c p = keep (λ (z : ℕ). carIn ts z c && not (inZone ts z p)) (upto 16)
 
 abbrev pub leftBehind : List Told → ℕ → List ℕ
 leftBehind ts c = keep (λ (z : ℕ). carIn ts z c) (upto 16)
+
+-- the number that refuses a P, or 0: no town is open, no such car, off the town; never a team
+abbrev pub reportRefusal : List Told → ℕ → Position → ℕ
+reportRefusal ts c p = first ((there (lastOpen ts) allowed, 3) ∷ (ltb c 64, 5) ∷ (there (lastOpen ts) (λ (s : Shape). onTown s p), 10) ∷ [])

@@ -5,23 +5,25 @@ use mathlib.Core.Bool.{Bool, true, false, cond, not, _&&_}
 use mathlib.Core.List.{List, [], _∷_, _++_}
 use mathlib.Core.Option.{Option, none, some}
 use native.Mathlib.Omega.{arith}
-use lib.Dec.{leb}
+use lib.Dec.{leb, ltb, eqb}
 use lib.ListN.{length}
 use Rattle.order.specs.TestLaws.{true-not-false}
 use Rattle.order.specs.Order.{upto, keep}
 use Rattle.squares.specs.declared.shape.Shape.{Shape}
 use Rattle.squares.specs.declared.shape.Rect.{Rect}
 use Rattle.squares.specs.Shape.{allowed}
+use Rattle.squares.specs.Refusals.{first}
 use Rattle.position.specs.declared.Position.{Position}
-use Rattle.model.specs.Model.{Opening, Town, nowhere, there, holdsSpot, holdsCar, roster, zonesAt, zonesOf, zonesEntered, zonesLeft}
+use Rattle.position.specs.Answer.{onTown}
+use Rattle.model.specs.Model.{Opening, Car, Town, nowhere, there, holdsSpot, holdsCar, roster, zonesAt, zonesOf, zonesEntered, zonesLeft, teamed}
 use Rattle.line.specs.declared.records.Record.{Record}
 use Rattle.line.specs.declared.records.Record.the-variants.{Bad, Open, Add, Remove, Report, Leave, Search, Roster}
 use Rattle.line.specs.Grammar.{meaning}
 use Rattle.line.specs.Lines.{lines}
-use Rattle.season.specs.Output.{openingOf, callOf, lineOf, townAfter}
-use Rattle.season.specs.Season.{Told, told, accepted, lastWord, shapeSays, zoneSays, carSays, lastOpen, lastAdd, lastReport, inZone, carIn, carsIn, zonesOver, entered, left, leftBehind}
+use Rattle.season.specs.Output.{positionOf, openingOf, callOf, lineOf, townAfter}
+use Rattle.season.specs.Season.{Told, told, accepted, lastWord, shapeSays, zoneSays, carSays, lastOpen, lastAdd, lastReport, carBy, inZone, carIn, carsIn, zonesOver, entered, left, leftBehind, reportRefusal}
 use Rattle.season.specs.OutputLaws.{bare, tells, told-tells}
-use Rattle.season.specs.ReplyLaws.{accepting, changed, moves, Proper, proper-next}
+use Rattle.season.specs.ReplyLaws.{accepting, changed, moves, Proper, proper-next, reportBar}
 
 -- ---- the town that words say
 
@@ -31,24 +33,35 @@ openingBy none = nowhere .opening
 openingBy (some s) = openingOf (s .k) (s .P) (s .Q)
 
 module _ (shape : Option Shape) (zone : ℕ → Option Rect) (car : ℕ → Option Position) where
+  abbrev withCars : (ℕ → Option Car) → Town
+  withCars cars = record { opening = openingBy shape; zone = zone; car = cars }
+
   abbrev saying : Town
-  saying = record { opening = openingBy shape; zone = zone; car = car }
+  saying = withCars (λ (c : ℕ). carBy (car c))
 
   -- the words after lines
   abbrev saidAfter : List Told → Town
-  saidAfter ts = record { opening = openingBy (lastWord shapeSays shape ts); zone = λ (z : ℕ). lastWord (zoneSays z) (zone z) ts; car = λ (c : ℕ). lastWord (carSays c) (car c) ts }
+  saidAfter ts = record { opening = openingBy (lastWord shapeSays shape ts); zone = λ (z : ℕ). lastWord (zoneSays z) (zone z) ts; car = λ (c : ℕ). carBy (lastWord (carSays c) (car c) ts) }
 
   -- the words after one record, accepted or not
   abbrev saidBy : Bool → Record → Town
-  saidBy b r = record { opening = openingBy (cond b (shapeSays r shape) shape); zone = λ (z : ℕ). cond b (zoneSays z r (zone z)) (zone z); car = λ (c : ℕ). cond b (carSays c r (car c)) (car c) }
+  saidBy b r = record { opening = openingBy (cond b (shapeSays r shape) shape); zone = λ (z : ℕ). cond b (zoneSays z r (zone z)) (zone z); car = λ (c : ℕ). carBy (cond b (carSays c r (car c)) (car c)) }
+
+  -- one car's word changes
+  one-car : (c : ℕ) (new : Option Position) → withCars (λ (d : ℕ). cond (eqb d c) (carBy new) (carBy (car d))) ≡ withCars (λ (d : ℕ). carBy (cond (eqb d c) new (car d)))
+  one-car c new = ap withCars (fun-ext (λ d. go (eqb d c) (car d)))
+    where
+      go : (t : Bool) (old : Option Position) → cond t (carBy new) (carBy old) ≡ carBy (cond t new old)
+      go true old = refl
+      go false old = refl
 
   says : (r : Record) → changed saying (callOf r) ≡ saidBy true r
   says Bad = refl
   says (Open k P Q) = refl
   says (Add z a b w h) = refl
   says (Remove z) = refl
-  says (Report c x y) = refl
-  says (Leave c) = refl
+  says (Report c x y) = one-car c (some (positionOf x y))
+  says (Leave c) = one-car c none
   says (Search x y) = refl
   says (Roster z) = refl
 
@@ -132,16 +145,39 @@ pub few-cars : (shape : Option Shape) → leb (openingBy shape .cars) 64 ≡ tru
 few-cars none = refl
 few-cars (some s) = refl
 
+pub few-zones : (shape : Option Shape) → leb (openingBy shape .zones) 16 ≡ true
+few-zones none = refl
+few-zones (some s) = refl
+
+-- each car has team 0
+pub own-team : (w : Option Position) → teamed (carBy w) 0 ≡ true
+own-team none = refl
+own-team (some p) = refl
+
+-- so what refuses a report is what the lines say
+pub refusal-said : (ts : List Told) (c : ℕ) (p : Position) → reportBar (townSaid ts) c p ≡ reportRefusal ts c p
+unfolding first
+refusal-said ts c p = go (lastOpen ts)
+  where
+    go : (shape : Option Shape) → first ((allowed (openingBy shape .shape), 3) ∷ (ltb c (openingBy shape .cars), 5) ∷ (onTown (openingBy shape .shape) p, 10) ∷ []) ≡ first ((there shape allowed, 3) ∷ (ltb c 64, 5) ∷ (there shape (λ (s : Shape). onTown s p), 10) ∷ [])
+    go none = refl
+    go (some s) = refl
+
 -- the same test of as many numbers
 same : {f g : ℕ → Bool} {n most : ℕ} → n ≡ most → ((x : ℕ) → f x ≡ g x) → keep f (upto n) ≡ keep g (upto most)
 same many h = ap₂ (λ (f : ℕ → Bool) (n : ℕ). keep f (upto n)) (fun-ext h) many
+
+-- a test of where a car is
+placed : (w : Option Position) (test : Position → Bool) → there (carBy w) (λ (a : Car). test (a .position)) ≡ there w test
+placed none test = refl
+placed (some p) test = refl
 
 module _ (ts : List Told) {s : Shape} (e : lastOpen ts ≡ some s) where
   spot : (z : ℕ) (p : Position) → holdsSpot (townSaid ts) z p ≡ inZone ts z p
   spot z p = rw e
 
   car : (z c : ℕ) → holdsCar (townSaid ts) z c ≡ carIn ts z c
-  car z c = ap (there (lastReport c ts)) (fun-ext (spot z))
+  car z c = placed (lastReport c ts) (holdsSpot (townSaid ts) z) ∙ ap (there (lastReport c ts)) (fun-ext (spot z))
 
   zones : openingBy (lastOpen ts) .zones ≡ 16
   zones = rw e

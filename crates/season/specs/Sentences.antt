@@ -16,10 +16,10 @@ use Rattle.line.specs.Lines.{lines}
 use Rattle.print.specs.Text.{number, members, parts}
 use Rattle.texts.specs.Texts.{Letter, byte}
 use Rattle.season.specs.Output.{positionOf, lineOf, output}
-use Rattle.season.specs.Season.{Told, told, accepted, lastOpen, lastAdd, lastReport, carsIn, zonesOver, entered, left, leftBehind}
+use Rattle.season.specs.Season.{Told, told, accepted, lastOpen, lastAdd, lastReport, carBy, carsIn, zonesOver, entered, left, leftBehind, reportRefusal}
 use Rattle.season.specs.OutputLaws.{one-each}
-use Rattle.season.specs.ReplyLaws.{accepting, closed-reply, roster-reply, roster-accepts, search-reply, report-reply, leave-reply, add-reply}
-use Rattle.season.specs.SeasonLaws.{openingBy, Here, townSaid, here, answers-so, accepts-so, open-more, town-more, opened, few-cars, shape-said, cars-said, over-said, entered-said, left-said, behind-said}
+use Rattle.season.specs.ReplyLaws.{accepting, closed-reply, roster-reply, roster-accepts, search-reply, report-reply, report-accepts, report-refuses, leave-reply, add-reply}
+use Rattle.season.specs.SeasonLaws.{openingBy, Here, townSaid, here, answers-so, accepts-so, open-more, town-more, opened, few-cars, few-zones, own-team, refusal-said, shape-said, cars-said, over-said, entered-said, left-said, behind-said}
 
 -- each line answers one line
 pub one-answer : (input : List ℕ) → length (lines (output input)) ≡ length (lines input)
@@ -61,12 +61,21 @@ module _ (input : List ℕ) (earlier later : List Told) (l : Told) (e : told inp
       (s .0, s .1, answers-so at q ∙ g .1 ∙ rw (over-said earlier (s .1) (positionOf x y), shape-said earlier (s .1)))
 
   -- P: the squares looked into, the zones entered and the zones left
-  pub report-told : (c x y : ℕ) → meaning (l .line) ≡ Report c x y → accepted l ≡ true → (s : Shape) × (lastOpen earlier ≡ some s) × (l .answer ≡ 80 ∷ parts (number 0 ∷ number (looked s (lastReport c earlier) (positionOf x y)) ∷ members (entered earlier c (positionOf x y)) ∷ members (left earlier c (positionOf x y)) ∷ []))
+  pub report-told : (c x y : ℕ) → meaning (l .line) ≡ Report c x y → accepted l ≡ true → (s : Shape) × (lastOpen earlier ≡ some s) × (l .answer ≡ 80 ∷ parts (number 0 ∷ number (looked s (carBy (lastReport c earlier)) (positionOf x y)) ∷ members (entered earlier c (positionOf x y)) ∷ members (left earlier c (positionOf x y)) ∷ []))
   report-told c x y q a =
       let p = positionOf x y in
       let g = report-reply town c x y (accepts-so at q a) in
       let s = opened (lastOpen earlier) (g .0) in
       (s .0, s .1, answers-so at q ∙ g .1 ∙ rw (entered-said earlier (s .1) c p, left-said earlier (s .1) c p, shape-said earlier (s .1)))
+
+  -- it is accepted where nothing refuses it, and else refused by that number
+  pub report-accepted : (c x y : ℕ) → meaning (l .line) ≡ Report c x y → reportRefusal earlier c (positionOf x y) ≡ 0 → accepted l ≡ true
+  report-accepted c x y q e = ap accepting (answers-so at q) ∙ report-accepts town c x y (own-team (lastReport c earlier)) (few-zones (lastOpen earlier)) (refusal-said earlier c (positionOf x y) ∙ e)
+
+  pub report-refused : (c x y : ℕ) → meaning (l .line) ≡ Report c x y → (reportRefusal earlier c (positionOf x y) ≡ 0 → ⊥) → l .answer ≡ 80 ∷ parts (number (reportRefusal earlier c (positionOf x y)) ∷ [])
+  report-refused c x y q f =
+      let said = refusal-said earlier c (positionOf x y) in
+      answers-so at q ∙ report-refuses town c x y (own-team (lastReport c earlier)) (few-zones (lastOpen earlier)) (λ e. f (sym said ∙ e)) ∙ ap (λ (n : ℕ). 80 ∷ parts (number n ∷ [])) said
 
   -- L: the squares looked into, one a level, and the zones left
   pub leave-told : (c : ℕ) → meaning (l .line) ≡ Leave c → accepted l ≡ true → (s : Shape) × (lastOpen earlier ≡ some s) × (l .answer ≡ 76 ∷ parts (number 0 ∷ number (s .k + 1) ∷ members (leftBehind earlier c) ∷ []))

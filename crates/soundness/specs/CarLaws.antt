@@ -1,5 +1,5 @@
--- A car as it was read: whether its position is on the map, whether a zone's roster has it, and the roster's byte.
-use Prim.Native.Nat.{ℕ, _/_, _%_}
+-- A car as it was read: whether it fits, whether a zone's roster has it, and the roster's byte.
+use Prim.Native.Nat.{ℕ, _+_, _/_, _%_, _<_, _≤_}
 use mathlib.Core.Path.{_≡_}
 use mathlib.Core.Bool.{Bool, true, false}
 use mathlib.Core.List.{List}
@@ -7,7 +7,7 @@ use native.Mathlib.Omega.{arith}
 use lib.Dec.{eqb}
 use lib.Ieee.{Float}
 use lib.ListN.{getD}
-use borrow.Author.Tests.{lt-ltb, le-ltb}
+use borrow.Author.Tests.{le-leb, lt-leb, lt-ltb, le-ltb}
 use Rattle.order.specs.Sums.{bit}
 use Rattle.order.specs.TestLaws.{true-not-false}
 use Rattle.squares.specs.declared.shape.Shape.{Shape}
@@ -19,7 +19,8 @@ use Rattle.position.specs.declared.Spot.{Spot}
 use Rattle.position.specs.Answer.{onTown}
 use Rattle.position.specs.Spots.{spotOn}
 use Rattle.position.specs.Laws.{off-town, on-town}
-use Rattle.tables.specs.Tables.{rectIn, placedIn, spotIn}
+use Rattle.model.specs.Teams.{lastTeam}
+use Rattle.tables.specs.Tables.{rectIn, placedIn, teamIn, spotIn}
 use Rattle.soundness.specs.Tests.{carFits, has, byteRight, Riding}
 use Rattle.soundness.specs.ZoneLaws.{zone-down, zone-up}
 
@@ -31,14 +32,18 @@ module _ (s : Shape) (cars : List ℕ) (spots : List Float) (c : ℕ) where
   unfolding carFits
   car-away e = rw (le-ltb 0 (getD cars c 0) (omega arith))
 
-  module _ (h : Allowed s) (f : getD cars c 0 ≡ 0 → ⊥) where
+  pub car-teamless : lastTeam + 1 < getD cars c 0 → false ≡ carFits s cars spots c
+  unfolding carFits
+  car-teamless l = rw (lt-ltb 0 (getD cars c 0) (omega arith), lt-leb (teamIn cars c) lastTeam (omega arith))
+
+  module _ (h : Allowed s) (f : getD cars c 0 ≡ 0 → ⊥) (l : getD cars c 0 ≤ lastTeam + 1) where
     pub car-off : spotOn s (spotIn spots c) ≡ Spot.Off → false ≡ carFits s cars spots c
     unfolding carFits
-    car-off e = rw (car-up cars c f, off-town s (spotIn spots c) (→allowed s h) e)
+    car-off e = rw (car-up cars c f, le-leb (teamIn cars c) lastTeam (omega arith), off-town s (spotIn spots c) (→allowed s h) e)
 
     pub car-on : (x y : ℕ) → spotOn s (spotIn spots c) ≡ Spot.Cell x y → true ≡ carFits s cars spots c
     unfolding carFits
-    car-on x y e = rw (car-up cars c f, on-town s (spotIn spots c) x y (→allowed s h) e .0)
+    car-on x y e = rw (car-up cars c f, le-leb (teamIn cars c) lastTeam (omega arith), on-town s (spotIn spots c) x y (→allowed s h) e .0)
 
 -- ---- a byte of the rosters
 

@@ -5,6 +5,5 @@ pub mod StartLaws
 pub mod ZoneLaws
 pub mod CarLaws
 pub mod EntryLaws
-pub mod CountLaws
 pub mod SoundnessLaws
 pub mod SweepLaws

@@ -25,18 +25,21 @@ use Rattle.squares.specs.Bounds.{Fits}
 use Rattle.squares.specs.Squares.{squares}
 use Rattle.squares.specs.ShapeLaws.{fits→, →fits}
 use Rattle.position.specs.Answer.{onTown}
-use Rattle.tables.specs.Tables.{Tables, tally, shapeOf, zoneRoom, carRoom, entryRoom, rectIn, standsIn, stands, placed, spotIn, zoneIn, carIn, rosterHas, rectOf}
+use Rattle.model.specs.Teams.{lastTeam}
+use Rattle.tables.specs.Tables.{Tables, tally, shapeOf, zoneRoom, carRoom, entryRoom, rectIn, standsIn, stands, placed, placedIn, teamIn, teamOf, spotIn, zoneIn, carIn, rosterHas, rectOf}
 use Rattle.tables.specs.Sizes.{Sized}
-use Rattle.tables.specs.Derived.{on, keysTo, used, free, entriesOf, startsOf, rostersOf, talliesOf, derivedOf}
+use Rattle.tables.specs.Derived.{on, keysTo, used, free, entriesOf, startsOf, rostersOf, tallyOf, talliesOf, derivedOf}
 use Rattle.tables.specs.Sound.{Sound}
 use Rattle.tables.specs.RecordLaws.{starts-fresh, entries-fresh, rosters-fresh, tallies-fresh}
 use Rattle.tables.specs.CountLaws.{past-zones, count-used}
-use Rattle.soundness.specs.Tests.{every, zoneFits, carFits, keyRight, rightAt, risesAt, freeAt, sizeAt, startRight, has, byteRight, countRight, inUse, recordsRight, entriesRight, sound}
+use Rattle.soundness.specs.Tests.{every, zoneFits, carFits, keyRight, rightAt, risesAt, freeAt, sizeAt, startRight, has, byteRight, numberRight, tallyRight, inUse, recordsRight, entriesRight, sound}
 use Rattle.soundness.specs.EveryLaws.{every→, →every}
 use Rattle.soundness.specs.StartLaws.{parts-rank, rank-parts}
 use Rattle.tables.specs.CheckLaws.{→sized}
 use Rattle.tables.specs.RowLaws.{mapped, mapped-at, right-row}
-use Rattle.tables.specs.TallyLaws.{count-at, counts-by}
+use Rattle.tables.specs.TallyLaws.{tally-at, tallies-by}
+use Rattle.tallies.specs.Counts.{counted}
+use Rattle.tallies.specs.RightLaws.{counted-right}
 
 -- ---- zones and cars
 
@@ -62,18 +65,21 @@ module _ (s : Shape) (zones : List ℕ) (Z : ℕ) where
       go z false h = refl
 
 module _ (s : Shape) (cars : List ℕ) (spots : List Float) (C : ℕ) where
-  pub cars→ : length cars ≡ C → every (carFits s cars spots) C ≡ true → (c : ℕ) → ltb 0 (getD cars c 0) ≡ true → onTown s (spotIn spots c) ≡ true
+  abbrev fit : ℕ → Bool
+  fit c = leb (teamIn cars c) lastTeam && onTown s (spotIn spots c)
+
+  pub cars→ : length cars ≡ C → every (carFits s cars spots) C ≡ true → (c : ℕ) → placedIn cars c ≡ true → (leb (teamIn cars c) lastTeam ≡ true) × (onTown s (spotIn spots c) ≡ true)
   unfolding carFits
   cars→ l e c h = ⊎-elim
-      (λ (g : c < C). asked (ltb 0 (getD cars c 0)) _ h (every→ (carFits s cars spots) C e c g))
+      (λ (g : c < C). and→ (leb (teamIn cars c) lastTeam) _ (asked (placedIn cars c) (fit c) h (every→ (carFits s cars spots) C e c g)))
       (λ (g : C ≤ c). absurd (true-not-false _ h (rw (List·getD-eq-default cars 0 {n = c} (omega arith)))))
       (lt-or-le c C)
 
-  →cars : ((c : ℕ) → ltb 0 (getD cars c 0) ≡ true → onTown s (spotIn spots c) ≡ true) → every (carFits s cars spots) C ≡ true
+  →cars : ((c : ℕ) → placedIn cars c ≡ true → leb (teamIn cars c) lastTeam ≡ true) → ((c : ℕ) → placedIn cars c ≡ true → onTown s (spotIn spots c) ≡ true) → every (carFits s cars spots) C ≡ true
   unfolding carFits
-  →cars f = →every (carFits s cars spots) C (λ c g. go c (ltb 0 (getD cars c 0)) (f c))
+  →cars teams f = →every (carFits s cars spots) C (λ c g. go c (placedIn cars c) (λ e. rw (teams c e, f c e)))
     where
-      go : (c : ℕ) (b : Bool) → (b ≡ true → onTown s (spotIn spots c) ≡ true) → cond b (onTown s (spotIn spots c)) true ≡ true
+      go : (c : ℕ) (b : Bool) → (b ≡ true → fit c ≡ true) → cond b (fit c) true ≡ true
       go c true h = h refl
       go c false h = refl
 
@@ -209,17 +215,20 @@ module _ (t : Tables) (size : Sized t) where
 
   -- ---- tallies
 
-  abbrev counted : Bool
-  counted = every (countRight (t .derived .rosters) (t .derived .tallies) (carRoom t)) (zoneRoom t)
+  abbrev tallied : Bool
+  tallied = every (tallyRight (t .records .cars) (t .derived .rosters) (t .derived .tallies) (carRoom t)) (zoneRoom t)
 
-  module _ (rosters : t .derived .rosters ≡ rostersOf t) where
-    tallies→ : counted ≡ true → t .derived .tallies ≡ talliesOf t
-    unfolding countRight rosterHas
-    tallies→ e = counts-by t (t .derived .tallies) (size .lengths .tallies) (λ z g. eqb-true _ _ (every→ (countRight (t .derived .rosters) (t .derived .tallies) (carRoom t)) (zoneRoom t) e z g) ∙ ap length (right-row t rosters z g))
+  module _ (teams : (c : ℕ) → placed t c ≡ true → leb (teamOf t c) lastTeam ≡ true) (rosters : t .derived .rosters ≡ rostersOf t) where
+    row-is : (z : ℕ) → z < zoneRoom t → counted (t .records .cars) (t .derived .rosters) (z * carRoom t) (carRoom t) ≡ tallyOf t z
+    row-is z g = counted-right t teams (t .derived .rosters) z (right-row t rosters z g)
 
-    →tallies : t .derived .tallies ≡ talliesOf t → counted ≡ true
-    unfolding countRight rosterHas
-    →tallies e = →every (countRight (t .derived .rosters) (t .derived .tallies) (carRoom t)) (zoneRoom t) (λ z g. eq-eqb _ _ (ap (λ (l : List ℕ). getD l (z * tally) 0) e ∙ count-at t z g ∙ sym (ap length (right-row t rosters z g))))
+    tallies→ : tallied ≡ true → t .derived .tallies ≡ talliesOf t
+    unfolding tallyRight
+    tallies→ e = tallies-by t (t .derived .tallies) (size .lengths .tallies) (λ z j g l. eqb-true _ _ (every→ (numberRight (t .derived .tallies) z (counted (t .records .cars) (t .derived .rosters) (z * carRoom t) (carRoom t))) tally (every→ (tallyRight (t .records .cars) (t .derived .rosters) (t .derived .tallies) (carRoom t)) (zoneRoom t) e z g) j l) ∙ ap (λ (row : List ℕ). getD row j 0) (row-is z g))
+
+    →tallies : t .derived .tallies ≡ talliesOf t → tallied ≡ true
+    unfolding tallyRight
+    →tallies e = →every (tallyRight (t .records .cars) (t .derived .rosters) (t .derived .tallies) (carRoom t)) (zoneRoom t) (λ z g. →every (numberRight (t .derived .tallies) z (counted (t .records .cars) (t .derived .rosters) (z * carRoom t) (carRoom t))) tally (λ j l. eq-eqb _ _ (ap (λ (n : List ℕ). getD n (z * tally + j) 0) e ∙ tally-at t z j g l ∙ sym (ap (λ (row : List ℕ). getD row j 0) (row-is z g)))))
 
   -- ---- all of them
 
@@ -237,11 +246,13 @@ module _ (t : Tables) (size : Sized t) where
       let d = and→ listed _ (c .1) in
       let w = entries→ (b .0) in
       let rosters = rosters→ (d .0) in
+      let cars = cars→ s (t .records .cars) (t .records .spots) (carRoom t) (size .lengths .cars) (records .1) in
       record {
         size = →sized t size;
         zones = λ z q. →fits s (rectOf t z) (zones→ s (t .records .zones) (zoneRoom t) (size .lengths .zones) (records .0) z q);
-        cars = cars→ s (t .records .cars) (t .records .spots) (carRoom t) (size .lengths .cars) (records .1);
-        derived = same-derived (starts→ w (c .0)) (whole-entries w) rosters (tallies→ rosters (d .1));
+        cars = λ c q. cars c q .1;
+        teams = λ c q. cars c q .0;
+        derived = same-derived (starts→ w (c .0)) (whole-entries w) rosters (tallies→ (λ c q. cars c q .0) rosters (d .1));
       }
 
   pub →sound : Sound t → sound t ≡ true
@@ -249,4 +260,4 @@ module _ (t : Tables) (size : Sized t) where
   →sound h =
       let s = shapeOf t in
       let w = entries-whole (in-use (starts-fresh h)) (entries-fresh h) in
-      rw (→zones s (t .records .zones) (zoneRoom t) (λ z q. fits→ s (rectOf t z) (h .zones z q)), →cars s (t .records .cars) (t .records .spots) (carRoom t) (h .cars), →entries w, →starts w (starts-fresh h), →rosters (rosters-fresh h), →tallies (rosters-fresh h) (tallies-fresh h))
+      rw (→zones s (t .records .zones) (zoneRoom t) (λ z q. fits→ s (rectOf t z) (h .zones z q)), →cars s (t .records .cars) (t .records .spots) (carRoom t) (h .teams) (h .cars), →entries w, →starts w (starts-fresh h), →rosters (rosters-fresh h), →tallies (h .teams) (rosters-fresh h) (tallies-fresh h))

@@ -18,7 +18,7 @@ use Rattle.tables.specs.Sizes.{Sized}
 use Rattle.tables.specs.Asks.{Parked}
 use Rattle.tables.specs.Rows.{RowThere}
 use Rattle.tables.specs.RowLaws.{row-in}
-use Rattle.soundness.specs.Tests.{every, zoneFits, carFits, rightAt, risesAt, freeAt, sizeAt, startRight, byteRight, countRight, inUse, entriesRight, sound, Zoned, Fitting, Riding}
+use Rattle.soundness.specs.Tests.{every, zoneFits, carFits, rightAt, risesAt, freeAt, sizeAt, startRight, byteRight, tallyRight, inUse, entriesRight, sound, Zoned, Fitting, Riding}
 use Rattle.soundness.specs.SoundnessLaws.{zones→, cars→}
 
 -- ---- the entries
@@ -73,7 +73,7 @@ module _ {t : Tables} {s : Shape} {Z C : ℕ} (k : Known t s Z C) where
   fitting e = record { zoned = zoned; fit = zones→ s (t .records .zones) Z (zoned .many) e }
 
   pub riding : every (carFits s (t .records .cars) (t .records .spots)) C ≡ true → Riding s (t .records .cars) (t .records .spots) C
-  riding e = record { parked = parked; fit = cars→ s (t .records .cars) (t .records .spots) C (parked .many) e }
+  riding e = record { parked = parked; fit = λ c h. cars→ s (t .records .cars) (t .records .spots) C (parked .many) e c h .1 }
 
   pub starts-few : length (t .derived .starts) ≤ 87382
   starts-few = omega (arith, k .size .lengths .starts, squares-few (shapeOf t) (k .size .shape))
@@ -81,11 +81,11 @@ module _ {t : Tables} {s : Shape} {Z C : ℕ} (k : Known t s Z C) where
   pub bytes-many : length (t .derived .rosters) ≡ Z * C
   bytes-many = rw (k .zones, k .cars) (k .size .lengths .rosters)
 
-  pub rows-there : (z : ℕ) → z < Z → RowThere (t .derived .rosters) z C
-  rows-there = rw (k .zones, k .cars) (row-in t (k .size))
+  pub rows-there : (z : ℕ) → z < Z → RowThere (t .derived .rosters) z (length (t .records .cars))
+  rows-there = rw (k .zones, k .size .lengths .cars) (row-in t (k .size))
 
-  pub counts-many : length (t .derived .tallies) ≡ Z * tally
-  counts-many = rw (k .zones) (k .size .lengths .tallies)
+  pub numbers-many : length (t .derived .tallies) ≡ Z * tally
+  numbers-many = rw (k .zones) (k .size .lengths .tallies)
 
   pub last-start : (u : ℕ) → u ≡ getD (t .derived .starts) (length (t .derived .starts) - 1) 0 → u ≡ inUse t
   last-start u e = let h : length (t .derived .starts) - 1 ≡ squares (shapeOf t) = omega (arith, k .size .lengths .starts) in e ∙ ap (λ (n : ℕ). getD (t .derived .starts) n 0) h
@@ -114,6 +114,6 @@ module _ {t : Tables} {s : Shape} {Z C : ℕ} (k : Known t s Z C) where
           unfolding sound
           unsound-rosters e = rw (rw (k .shape, k .zones) at zone, rw (k .shape, k .cars) at car, rw (k .shape, k .zones, last) at entry, rw (last, k .size .lengths .starts) at start, rw (k .shape, k .zones, k .cars) at e)
 
-          pub sound-counts : every (byteRight s (t .records .zones) (t .records .cars) (t .records .spots) (t .derived .rosters) C) (Z * C) ≡ true → every (countRight (t .derived .rosters) (t .derived .tallies) C) Z ≡ sound t
+          pub sound-tallies : every (byteRight s (t .records .zones) (t .records .cars) (t .records .spots) (t .derived .rosters) C) (Z * C) ≡ true → every (tallyRight (t .records .cars) (t .derived .rosters) (t .derived .tallies) (length (t .records .cars))) Z ≡ sound t
           unfolding sound
-          sound-counts e = rw (rw (k .shape, k .zones) at zone, rw (k .shape, k .cars) at car, rw (k .shape, k .zones, last) at entry, rw (last, k .size .lengths .starts) at start, rw (k .shape, k .zones, k .cars) at e, k .zones, k .cars)
+          sound-tallies e = rw (rw (k .shape, k .zones) at zone, rw (k .shape, k .cars) at car, rw (k .shape, k .zones, last) at entry, rw (last, k .size .lengths .starts) at start, rw (k .shape, k .zones, k .cars) at e, k .zones, k .size .lengths .cars)

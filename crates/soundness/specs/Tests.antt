@@ -15,14 +15,14 @@ use Rattle.squares.specs.Shape.{fits, mostZones}
 use Rattle.squares.specs.Bounds.{Allowed, Fits}
 use Rattle.squares.specs.Squares.{squares, squaresOn}
 use Rattle.cuts.specs.Cut.{inCut}
-use Rattle.position.specs.declared.Position.{Position}
 use Rattle.position.specs.Answer.{onTown}
-use Rattle.model.specs.Model.{Town, holdsCar, cutSize}
+use Rattle.model.specs.Teams.{lastTeam}
+use Rattle.model.specs.Model.{Car, Town, holdsCar, cutSize}
 use Rattle.soundness.specs.declared.entry.Leveled.{Leveled}
-use Rattle.tables.specs.Tables.{Tables, tally, shapeOf, zoneRoom, carRoom, rectIn, standsIn, placedIn, spotIn}
+use Rattle.tables.specs.Tables.{Tables, tally, shapeOf, zoneRoom, carRoom, rectIn, standsIn, placedIn, teamIn, spotIn}
 use Rattle.tables.specs.Derived.{levelAt, numberAt, free}
 use Rattle.tables.specs.Asks.{Parked}
-use Rattle.tables.specs.Rows.{row}
+use Rattle.tallies.specs.Counts.{counted}
 
 -- every number below n has p
 unfoldable pub every : (ℕ → Bool) → ℕ → Bool
@@ -31,20 +31,20 @@ every p (suc n) = every p n && p n
 
 -- ---- zones and cars
 
--- as the town has them: the rectangle of a zone that stands, the position of a car on the map
+-- as the town has them: the rectangle of a zone that stands, a car on the map
 abbrev pub zoneAt : List ℕ → ℕ → Option Rect
 zoneAt zones z = cond (standsIn zones z) (some (rectIn zones z)) none
 
-abbrev pub spotAt : List ℕ → List Float → ℕ → Option Position
-spotAt cars spots c = cond (placedIn cars c) (some (spotIn spots c)) none
+abbrev pub carAt : List ℕ → List Float → ℕ → Option Car
+carAt cars spots c = cond (placedIn cars c) (some (record { position = spotIn spots c; team = teamIn cars c })) none
 
 -- where a zone stands, its rectangle fits
 unfoldable pub zoneFits : Shape → List ℕ → ℕ → Bool
 zoneFits s zones z = cond (standsIn zones z) (fits s (rectIn zones z)) true
 
--- where a car is placed, its position is on the map
+-- where a car is placed, its team is one of the eight and its position is on the map
 unfoldable pub carFits : Shape → List ℕ → List Float → ℕ → Bool
-carFits s cars spots c = cond (placedIn cars c) (onTown s (spotIn spots c)) true
+carFits s cars spots c = cond (placedIn cars c) (leb (teamIn cars c) lastTeam && onTown s (spotIn spots c)) true
 
 -- ---- entries
 
@@ -82,7 +82,7 @@ startRight starts entries u p = parts entries u (p * 256) (getD starts p 0)
 
 -- the town of these records; a roster goes by no capacity
 abbrev pub townIn : Shape → List ℕ → List ℕ → List Float → Town
-townIn s zones cars spots = record { opening = record { shape = s; zones = 0; cars = 0; entries = 0 }; zone = zoneAt zones; car = spotAt cars spots }
+townIn s zones cars spots = record { opening = record { shape = s; zones = 0; cars = 0; entries = 0 }; zone = zoneAt zones; car = carAt cars spots }
 
 -- a zone's roster has a car
 unfoldable pub has : Shape → List ℕ → List ℕ → List Float → ℕ → ℕ → Bool
@@ -93,9 +93,13 @@ byteRight s zones cars spots rosters C i = eqb (getD rosters i 0) (bit (has s zo
 
 -- ---- tallies
 
--- a zone's count is how many bytes of its row are not 0
-unfoldable pub countRight : List ℕ → List ℕ → ℕ → ℕ → Bool
-countRight rosters tallies C z = eqb (getD tallies (z * tally) 0) (length (row rosters (z * C) C))
+-- a zone's number is that of a row
+abbrev pub numberRight : List ℕ → ℕ → List ℕ → ℕ → Bool
+numberRight tallies z row j = eqb (getD tallies (z * tally + j) 0) (getD row j 0)
+
+-- all are those counted by its row of the rosters and the cars' records
+unfoldable pub tallyRight : List ℕ → List ℕ → List ℕ → ℕ → ℕ → Bool
+tallyRight cars rosters tallies C z = every (numberRight tallies z (counted cars rosters (z * C) C)) tally
 
 -- ---- all of them
 
@@ -116,7 +120,7 @@ sound t =
     && (entriesRight (shapeOf t) (zoneRoom t) (t .records .zones) (t .derived .entries) (inUse t)
     && (every (startRight (t .derived .starts) (t .derived .entries) (inUse t)) (squares (shapeOf t) + 1)
     && (every (byteRight (shapeOf t) (t .records .zones) (t .records .cars) (t .records .spots) (t .derived .rosters) (carRoom t)) (zoneRoom t * carRoom t)
-    && every (countRight (t .derived .rosters) (t .derived .tallies) (carRoom t)) (zoneRoom t))))
+    && every (tallyRight (t .records .cars) (t .derived .rosters) (t .derived .tallies) (carRoom t)) (zoneRoom t))))
 
 -- ---- what the functions ask and promise
 

@@ -1,11 +1,12 @@
 // Soundness: the zones, the cars and the rosters, and all together.
 use crate::lists::entries_right;
 use crate::lists::starts_right;
-use crate::tallies::counts_right;
+use crate::tally::tallies_right;
 use order::wide;
 use position::Spot;
 use position::locate;
 use squares::Shape;
+use tables::LAST_TEAM;
 use tables::car_room;
 use tables::rect_in;
 use tables::shape_in;
@@ -51,14 +52,18 @@ fn zones_fit(s: Shape, zones: &[u32], Z: usize) -> bool
     true
 }
 
-// Whether a car's position is on the map, if it is placed.
+// Whether a car's team is one of the eight and its position is on the map, if it is placed.
 fn car_fits(s: Shape, cars: &[u32], spots: &[f32], C: usize, c: usize) -> bool
     requires { ⌜ Parked s (now cars) (now spots) C ⌝ }
     requires { ⌜ c < C ⌝ }
     ensures { λ r. ⌜ r ≡ carFits s (now (cars .entry)) (now (spots .entry)) c ⌝ }
 {
-    if cars[c] == 0 {
+    let car = cars[c];
+    if car == 0 {
         return true;
+    }
+    if LAST_TEAM + 1 < car {
+        return false;
     }
     let Spot::Cell(column, row) = locate(s, spot_in(spots, c)) else {
         return false;
@@ -66,7 +71,7 @@ fn car_fits(s: Shape, cars: &[u32], spots: &[f32], C: usize, c: usize) -> bool
     true
 }
 
-// Whether every placed car's position is on the map.
+// Whether every car that is placed fits.
 fn cars_fit(s: Shape, cars: &[u32], spots: &[f32], C: usize) -> bool
     requires { ⌜ Parked s (now cars) (now spots) C ⌝ }
     ensures { λ r. ⌜ r ≡ every (carFits s (now (cars .entry)) (now (spots .entry))) C ⌝ }
@@ -181,5 +186,5 @@ pub fn sound(
     if !rosters_right(s, zones, Z, cars, spots, C, rosters) {
         return false;
     }
-    counts_right(rosters, tallies, Z, C)
+    tallies_right(cars, rosters, tallies, Z)
 }

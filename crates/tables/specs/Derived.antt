@@ -1,7 +1,7 @@
 -- What the records give afresh: the entries in use, where each square's list starts, the rosters, the tallies.
 use Prim.Native.Nat.{ℕ, _+_, _-_, _*_, _/_, _%_, _^_}
 use mathlib.Core.Bool.{Bool, _&&_}
-use mathlib.Core.List.{List, [], _∷_, _++_, map}
+use mathlib.Core.List.{List, _∷_, _++_, map}
 use lib.Dec.{leb}
 use lib.ListN.{length, getD, replicate}
 use Rattle.order.specs.Order.{upto, keep}
@@ -9,7 +9,7 @@ use Rattle.order.specs.Sums.{bit}
 use Rattle.squares.specs.declared.shape.Shape.{Shape}
 use Rattle.squares.specs.Squares.{squares}
 use Rattle.cuts.specs.Cut.{inCut}
-use Rattle.model.specs.Model.{roster}
+use Rattle.model.specs.Model.{roster, standing}
 use Rattle.tables.specs.Tables.{Tables, Derived, tally, shapeOf, zoneRoom, carRoom, entryRoom, rectOf, stands, townOf, rosterHas}
 
 -- ---- places: all squares of a town in one row, level 0 first, rising number within a level
@@ -58,9 +58,9 @@ rostersOf t = map (λ (i : ℕ). bit (rosterHas t (i / carRoom t) (i % carRoom t
 
 -- ---- tallies
 
--- a zone's numbers: how many cars its roster has
+-- a zone's numbers: how many cars its roster has, how many of each team, and the holder
 abbrev pub tallyOf : Tables → ℕ → List ℕ
-tallyOf t z = length (roster (townOf t) z) ∷ []
+tallyOf t z = length (roster (townOf t) z) ∷ standing (townOf t) z
 
 -- zone after zone
 abbrev pub talliesOf : Tables → List ℕ

@@ -1,4 +1,5 @@
 pub mod Tables
+pub mod Slots
 pub mod Check
 pub mod Derived
 pub mod Sound
@@ -10,6 +11,7 @@ pub mod Asks
 pub mod Runs
 pub mod CheckLaws
 pub mod RecordLaws
+pub mod SlotLaws
 pub mod PlaceLaws
 pub mod RowLaws
 pub mod TallyLaws

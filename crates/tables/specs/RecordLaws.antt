@@ -1,15 +1,19 @@
 -- The records as the functions over one table read them, and as the town has them.
 use Prim.Native.Nat.{ℕ}
 use mathlib.Core.Path.{_≡_, refl, ap, sym}
-use mathlib.Core.Bool.{Bool, true, false, cond, _&&_}
+use mathlib.Core.Bool.{Bool, true, false, cond, _&&_, and-true}
 use mathlib.Core.List.{List, [], _∷_}
 use mathlib.Core.Option.{none, some}
 use native.Mathlib.Omega.{arith}
-use lib.ListN.{length, set}
+use lib.Dec.{leb, eqb}
+use lib.ListN.{length, getD, set}
+use borrow.Author.Tests.{leb-true, ltb-true}
 use Rattle.squares.specs.Shape.{holds}
 use Rattle.position.specs.Answer.{columnOf, rowOf}
-use Rattle.model.specs.Model.{known, there}
-use Rattle.tables.specs.Tables.{Tables, Derived, shapeOf, rectOf, stands, standsIn, placed, placedIn, spotOf, zoneIn, carIn, zoneHolds, rosterHas}
+use Rattle.model.specs.Teams.{lastTeam}
+use Rattle.model.specs.Model.{known, there, teamed}
+use Rattle.tables.specs.Tables.{Tables, Derived, shapeOf, rectOf, stands, standsIn, placed, placedIn, teamOf, spotOf, zoneIn, carIn, zoneHolds, rosterHas}
+use Rattle.tables.specs.Slots.{teamFits, slotIn}
 use Rattle.tables.specs.Derived.{startsOf, entriesOf, rostersOf, talliesOf}
 use Rattle.tables.specs.Sound.{Sound}
 
@@ -28,7 +32,7 @@ module _ (t : Tables) where
 
   pub placed-known : (c : ℕ) → known (carIn t c) ≡ placed t c
   unfolding carIn
-  placed-known c = known-if (placed t c) (spotOf t c)
+  placed-known c = known-if (placed t c) (record { position = spotOf t c; team = teamOf t c })
 
   -- as the code reads them
   pub zone-known : (z : ℕ) → standsIn (t .records .zones) z ≡ known (zoneIn t z)
@@ -43,13 +47,27 @@ module _ (t : Tables) where
   unfolding zoneIn
   zone-out z e = rw e
 
-  pub car-in : (c : ℕ) → placed t c ≡ true → carIn t c ≡ some (spotOf t c)
+  pub car-in : (c : ℕ) → placed t c ≡ true → carIn t c ≡ some (record { position = spotOf t c; team = teamOf t c })
   unfolding carIn
   car-in c e = rw e
 
   pub car-out : (c : ℕ) → placed t c ≡ false → carIn t c ≡ none
   unfolding carIn
   car-out c e = rw e
+
+  -- a team that a car may report
+  pub team-known : (c g : ℕ) → teamFits (t .records .cars) c g ≡ teamed (carIn t c) g
+  unfolding carIn placed teamFits
+  team-known c g = go (placedIn (t .records .cars) c)
+    where
+      go : (b : Bool) → (leb g lastTeam && cond b (eqb g (teamOf t c)) true) ≡ teamed (cond b (some (record { position = spotOf t c; team = teamOf t c })) none) g
+      go true = refl
+      go false = and-true (leb g lastTeam)
+
+  -- the team of a car on the map, where it is one of the eight
+  pub slot-team : (c : ℕ) → placed t c ≡ true → leb (teamOf t c) lastTeam ≡ true → slotIn (t .records .cars) c ≡ teamOf t c
+  unfolding placed
+  slot-team c e f = omega (arith, ltb-true 0 (getD (t .records .cars) c 0) e, leb-true (teamOf t c) lastTeam f)
 
   -- a zone that stands, and whose rectangle holds the cell
   pub zone-holds : (z x y : ℕ) → zoneHolds t z x y ≡ (stands t z && holds (rectOf t z) x y)
@@ -59,7 +77,7 @@ module _ (t : Tables) where
   -- a car on the map, whose cell the zone holds
   pub roster-has : (z c : ℕ) → rosterHas t z c ≡ (placed t c && zoneHolds t z (columnOf (shapeOf t) (spotOf t c)) (rowOf (shapeOf t) (spotOf t c)))
   unfolding rosterHas carIn zoneHolds
-  roster-has z c = there-if (placed t c) (spotOf t c) _
+  roster-has z c = there-if (placed t c) (record { position = spotOf t c; team = teamOf t c }) _
 
 -- ---- what is derived, table by table
 

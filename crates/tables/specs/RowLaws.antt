@@ -60,7 +60,7 @@ module _ (rosters : List ℕ) (from : ℕ) where
   unfolding span keep
   row-start b = wrote-none b 0
 
-  row-more : (c : ℕ) → row rosters from (c + 1) ≡ row rosters from c ++ keep (marked rosters from) (c ∷ [])
+  pub row-more : (c : ℕ) → row rosters from (c + 1) ≡ row rosters from c ++ keep (marked rosters from) (c ∷ [])
   unfolding span
   row-more c = rw (span-add 0 c 1, keep-append) (ap (λ (n : ℕ). row rosters from c ++ keep (marked rosters from) (n ∷ [])) (omega arith))
 

@@ -52,6 +52,6 @@ abbrev pub step : Change → Tables → Tables
 step (emptied o) t = emptyTown o
 step (zoneOn z r) t = fresh (zoned t (withZone (t .records .zones) z r))
 step (zoneOff z) t = fresh (zoned t (withoutZone (t .records .zones) z))
-step (carAt c p) t = fresh (parked t (set (t .records .cars) c 1) (withSpot (t .records .spots) c p))
+step (carAt c a) t = fresh (parked t (set (t .records .cars) c (a .team + 1)) (withSpot (t .records .spots) c (a .position)))
 step (carOff c) t = fresh (parked t (set (t .records .cars) c 0) (t .records .spots))
 step nothing t = t

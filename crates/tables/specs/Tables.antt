@@ -1,5 +1,5 @@
 -- The lent tables: the records that stand in them, what is derived from those, and the town that the records say (docs/LAYOUT.md).
-use Prim.Native.Nat.{ℕ, _+_, _*_}
+use Prim.Native.Nat.{ℕ, _+_, _-_, _*_}
 use mathlib.Core.Bool.{Bool, cond}
 use mathlib.Core.List.{List, [], _∷_}
 use mathlib.Core.Option.{Option, none, some}
@@ -9,7 +9,7 @@ use lib.ListN.{getD}
 use Rattle.squares.specs.declared.shape.Shape.{Shape}
 use Rattle.squares.specs.declared.shape.Rect.{Rect}
 use Rattle.position.specs.declared.Position.{Position}
-use Rattle.model.specs.Model.{Opening, Town, holdsCell, holdsCar}
+use Rattle.model.specs.Model.{Opening, Car, Town, holdsCell, holdsCar}
 
 pub record Records : Type 0 where
   pub head : List ℕ
@@ -33,7 +33,7 @@ tables h z c p s e r n = record { records = record { head = h; zones = z; cars =
 
 -- how many numbers a zone has in tallies
 abbrev pub tally : ℕ
-tally = 1
+tally = 10
 
 -- ---- what head says
 
@@ -78,6 +78,13 @@ placedIn cars c = ltb 0 (getD cars c 0)
 unfoldable pub placed : Tables → ℕ → Bool
 placed t c = placedIn (t .records .cars) c
 
+-- a car's record is 1 + its team, where it is on the map
+abbrev pub teamIn : List ℕ → ℕ → ℕ
+teamIn cars c = getD cars c 0 - 1
+
+abbrev pub teamOf : Tables → ℕ → ℕ
+teamOf t c = teamIn (t .records .cars) c
+
 abbrev pub spotIn : List Float → ℕ → Position
 spotIn spots c = record { x = getD spots (2 * c) nan; y = getD spots (2 * c + 1) nan }
 
@@ -92,8 +99,8 @@ openingIn t = record { shape = shapeOf t; zones = zoneRoom t; cars = carRoom t; 
 unfoldable pub zoneIn : Tables → ℕ → Option Rect
 zoneIn t z = cond (stands t z) (some (rectOf t z)) none
 
-unfoldable pub carIn : Tables → ℕ → Option Position
-carIn t c = cond (placed t c) (some (spotOf t c)) none
+unfoldable pub carIn : Tables → ℕ → Option Car
+carIn t c = cond (placed t c) (some (record { position = spotOf t c; team = teamOf t c })) none
 
 abbrev pub townOf : Tables → Town
 townOf t = record { opening = openingIn t; zone = zoneIn t; car = carIn t }

@@ -1,4 +1,4 @@
-// The records: the shape and the capacities, a zone and its rectangle, a car and its position.
+// The records: the shape and the capacities, a zone and its rectangle, a car, its team and its position.
 use position::Position;
 use squares::Rect;
 use squares::Shape;
@@ -7,6 +7,10 @@ ghost use mathlib.Core.Path.{_≡_};
 ghost use lib.ListN.{length, getD};
 ghost use Rattle.squares.specs.Shape.{shape};
 ghost use Rattle.tables.specs.Tables.{headOf, shapeIn, rectIn, standsIn, placedIn, spotIn};
+ghost use Rattle.tables.specs.Slots.{teamFits, slotIn};
+
+// Teams are numbered from 0, the spectators, to 7.
+pub const LAST_TEAM: u32 = 7;
 
 pub fn shape_in(head: &[u32]) -> Shape
     requires { ⌜ 3 ≤ length (now head) ⌝ }
@@ -79,6 +83,30 @@ pub fn placed_in(cars: &[u32], c: usize) -> bool
 {
     let car = cars[c];
     0 < car
+}
+
+// Whether car c may report a team: at most the last, and on the map the one that it has.
+pub fn team_fits(cars: &[u32], c: usize, team: u32) -> bool
+    requires { ⌜ c < length (now cars) ⌝ }
+    ensures { λ r. ⌜ r ≡ teamFits (now (cars .entry)) c team ⌝ }
+{
+    if LAST_TEAM < team {
+        return false;
+    }
+    let car = cars[c];
+    if car == 0 {
+        return true;
+    }
+    car == team + 1
+}
+
+// Which of the eight teams car c's record says: its own, where that is at most 7.
+pub fn slot_in(cars: &[u32], c: usize) -> usize
+    requires { ⌜ c < length (now cars) ⌝ }
+    ensures { λ r. ⌜ r ≡ slotIn (now (cars .entry)) c ⌝ }
+{
+    let next = std::num::wrapping_add_u32(cars[c], LAST_TEAM);
+    (next % 8) as usize
 }
 
 pub fn spot_in(spots: &[f32], c: usize) -> Position

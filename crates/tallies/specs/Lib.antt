@@ -1,2 +1,5 @@
+pub mod Holder
 pub mod Counts
+pub mod HolderLaws
 pub mod CountLaws
+pub mod RightLaws

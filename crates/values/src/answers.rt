@@ -1,5 +1,6 @@
 // Each call's answer told: the refusal with every value 0, or 0 and the values.
 use crate::tell::point_two;
+use crate::tell::tell_nine;
 use crate::tell::tell_one;
 use crate::tell::tell_three;
 use crate::tell::tell_two;
@@ -8,6 +9,7 @@ use grid::NumberOf;
 use grid::SquareOf;
 use model::Added;
 use model::CountOf;
+use model::HolderOf;
 use model::Left;
 use model::Opened;
 use model::Removed;
@@ -19,7 +21,7 @@ use model::WhereIs;
 ghost use mathlib.Core.List.{[]};
 ghost use Rattle.squares.specs.Refusals.{fields};
 ghost use Rattle.grid.specs.Promises.{numberIs, squareIs, cutIs};
-ghost use Rattle.model.specs.Answers.{openedIs, addedIs, removedIs, reportedIs, leftIs, searchedIs, rosterIs, countIs, whereIs, soundnessIs};
+ghost use Rattle.model.specs.Answers.{openedIs, addedIs, removedIs, reportedIs, leftIs, searchedIs, rosterIs, countIs, holderIs, whereIs, soundnessIs};
 ghost use Rattle.values.specs.Promises.{said, Tells, Points};
 
 pub fn tell_number(a: NumberOf, values: &mut [u32]) -> u32
@@ -124,6 +126,27 @@ pub fn tell_count(a: CountOf, values: &mut [u32]) -> u32
     match a {
         CountOf::Refused(n) => tell_one(n, 0, values),
         CountOf::Cars(n) => tell_one(0, n as usize, values),
+    }
+}
+
+pub fn tell_holder(a: HolderOf, values: &mut [u32]) -> u32
+    ensures { λ r. ⌜ Tells (said 9 (holderIs a)) (now (values .entry)) (now (values .exit)) r ⌝ }
+{
+    match a {
+        HolderOf::Refused(n) => tell_nine(n, 0, 0, 0, 0, 0, 0, 0, 0, 0, values),
+        HolderOf::Held(s) => tell_nine(
+            0,
+            s.team0 as usize,
+            s.team1 as usize,
+            s.team2 as usize,
+            s.team3 as usize,
+            s.team4 as usize,
+            s.team5 as usize,
+            s.team6 as usize,
+            s.team7 as usize,
+            s.holder as usize,
+            values,
+        ),
     }
 }
 

@@ -5,6 +5,7 @@ mod answers; // answers.rt: each call's answer told
 pub use answers::tell_added;
 pub use answers::tell_count;
 pub use answers::tell_cut;
+pub use answers::tell_holder;
 pub use answers::tell_left;
 pub use answers::tell_number;
 pub use answers::tell_opened;

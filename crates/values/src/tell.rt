@@ -71,6 +71,33 @@ pub fn tell_eight(
     r
 }
 
+pub fn tell_nine(
+    r: u32,
+    a: usize,
+    b: usize,
+    c: usize,
+    d: usize,
+    e: usize,
+    f: usize,
+    g: usize,
+    h: usize,
+    i: usize,
+    values: &mut [u32],
+) -> u32
+    ensures { λ t. ⌜ Tells (r ∷ a ∷ b ∷ c ∷ d ∷ e ∷ f ∷ g ∷ h ∷ i ∷ []) (now (values .entry)) (now (values .exit)) t ⌝ }
+{
+    tell(values, 0, a);
+    tell(values, 1, b);
+    tell(values, 2, c);
+    tell(values, 3, d);
+    tell(values, 4, e);
+    tell(values, 5, f);
+    tell(values, 6, g);
+    tell(values, 7, h);
+    tell(values, 8, i);
+    r
+}
+
 // A coordinate goes to its place, its bits unchanged.
 fn point(position: &mut [f32], at: usize, x: f32)
     ensures { λ _. ⌜ now (position .exit) ≡ set (now (position .entry)) at x ⌝ }

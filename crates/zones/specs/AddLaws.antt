@@ -2,14 +2,13 @@
 use Prim.Native.Nat.{ℕ, _+_, _-_, _*_, _<_, _≤_}
 use mathlib.Core.Path.{_≡_, refl, ap, ap₂, sym, _∙_}
 use mathlib.Core.Logic.{inl}
-use mathlib.Core.Bool.{Bool, true, false}
+use mathlib.Core.Bool.{false}
 use mathlib.Core.List.{List, [], _∷_}
 use native.Mathlib.Omega.{arith}
 use lib.Dec.{leb}
-use lib.ListN.{length, getD, set}
+use lib.ListN.{length, getD}
+use lib.Seq.{sets, length-sets}
 use borrow.Author.Tests.{le-leb, lt-leb, ltb-true, not-true}
-use Rattle.order.specs.Order.{upto}
-use Rattle.order.specs.KeepLaws.{length-keep, length-span}
 use Rattle.squares.specs.declared.shape.Shape.{Shape}
 use Rattle.squares.specs.declared.shape.Rect.{Rect}
 use Rattle.squares.specs.Bounds.{Fits}
@@ -28,6 +27,7 @@ use Rattle.tables.specs.CheckLaws.{sized→, size-of}
 use Rattle.tables.specs.RecordLaws.{stands-known}
 use Rattle.tables.specs.Rows.{RowThere}
 use Rattle.tables.specs.RowLaws.{row-in}
+use Rattle.tables.specs.TallyLaws.{tally-in}
 use Rattle.tables.specs.RunLaws.{start-at}
 use Rattle.tables.specs.CountLaws.{count-used}
 use Rattle.tables.specs.Asks.{Parked}
@@ -35,7 +35,8 @@ use Rattle.tables.specs.Sound.{Sound}
 use Rattle.tables.specs.Steps.{withZone}
 use Rattle.tables.specs.Lent.{both}
 use Rattle.entries.specs.Keys.{AddRoom, KeysAdded}
-use Rattle.rosters.specs.Inside.{carWithin, RowMarked}
+use Rattle.rosters.specs.Inside.{rowIn, RowMarked}
+use Rattle.tallies.specs.Counts.{counted}
 use Rattle.edits.specs.AddLaws.{added-is, cars-added}
 use Rattle.promises.specs.Promise.{means, bars, Keeps}
 use Rattle.promises.specs.Events.{added}
@@ -77,9 +78,12 @@ module _ {t : Tables} {z : ℕ} {r : Rect} (h : New t z r) where
     pub row-there : {many : ℕ} → many ≡ carRoom t → Parked s (t .records .cars) (t .records .spots) many × (RowThere (t .derived .rosters) z many × Fits s r)
     row-there e = rw (shape, e) (record { shape = h .size .shape; many = h .size .lengths .cars; pairs = h .size .lengths .spots; some = h .size .room .cars-some; few = h .size .room .cars-few }, (row-in t (h .size) z (h .zone), h .fit))
 
-    -- no more cars than there are
-    pub inside-few : {many inside : ℕ} {m : List ℕ} → many ≡ carRoom t → RowMarked s (t .records .cars) (t .records .spots) r (t .derived .rosters) m z many inside → inside ≤ 1024
-    inside-few {many} e k = omega (arith, k .count, length-keep (carWithin s (t .records .cars) (t .records .spots) r) (upto many), length-span 0 many, h .size .room .cars-few)
+    -- the row marked, for its cars to be counted
+    pub cars-there : {many inside : ℕ} {m : List ℕ} → many ≡ carRoom t → RowMarked s (t .records .cars) (t .records .spots) r (t .derived .rosters) m z many inside → RowThere m z (length (t .records .cars)) × (z * tally + tally ≤ length (t .derived .tallies))
+    cars-there {many} {inside} {m} e k =
+        let old = row-in t (h .size) z (h .zone) in
+        let long : length m ≡ length (t .derived .rosters) = ap length (k .written) ∙ length-sets (t .derived .rosters) (z * many) (rowIn s (t .records .cars) (t .records .spots) r many) in
+        (rw (h .size .lengths .cars) (record { there = omega (arith, old .there, long); early = old .early; few = old .few }), tally-in t (h .size) z (h .zone))
 
     -- the last start read and the squares counted
     module _ {u n : ℕ} (last : u ≡ getD (t .derived .starts) (length (t .derived .starts) - 1) 0) (count : n ≡ length (cut s r)) where
@@ -99,10 +103,10 @@ module _ {t : Tables} {z : ℕ} {r : Rect} (h : New t z r) where
       unfolding meaning first
       add-full l = keeps-late t (adding z r) _ 11 (h .none) (inl refl) refl (λ any sound. rw (room-is sound ∙ lt-leb (u + n) (length (t .derived .entries)) l))
 
-      pub add-kept : u + n ≤ length (t .derived .entries) → {w b e m n′ : List ℕ} {many inside : ℕ} → many ≡ carRoom t → w ≡ withZone (t .records .zones) z r → KeysAdded s r z u (t .derived .starts) b (t .derived .entries) e → RowMarked s (t .records .cars) (t .records .spots) r (t .derived .rosters) m z many inside → n′ ≡ set (t .derived .tallies) (z * tally) inside → Keeps (both t (tables (t .records .head) w (t .records .cars) (t .records .spots) b e m n′)) (added z r (Added.Done n inside))
+      pub add-kept : u + n ≤ length (t .derived .entries) → {w b e m n′ : List ℕ} {many inside : ℕ} → many ≡ carRoom t → w ≡ withZone (t .records .zones) z r → KeysAdded s r z u (t .derived .starts) b (t .derived .entries) e → RowMarked s (t .records .cars) (t .records .spots) r (t .derived .rosters) m z many inside → n′ ≡ sets (t .derived .tallies) (z * tally) (counted (t .records .cars) m (z * length (t .records .cars)) (length (t .records .cars))) → Keeps (both t (tables (t .records .head) w (t .records .cars) (t .records .spots) b e m n′)) (added z r (Added.Done n inside))
       unfolding meaning first
       add-kept l {w} {b} {e} {m} {n′} {inside = i} room ew ek em en = keeps-done t (adding z r) _ _ (numbers (n ∷ i ∷ [])) (h .none) refl
-          (λ any sound. (rw (room-is sound ∙ le-leb (u + n) (length (t .derived .entries)) l), (rw (cut-is, row .count ∙ cars-added t sound z (h .zone) (h .down) r (h .fit)), rw (ew, row .written, en, row .count) (added-is t sound z (h .zone) (h .down) r (h .fit) b e (rw (shape, in-use sound ∙ sym (count-used t (size-of sound))) at ek)))))
+          (λ any sound. (rw (room-is sound ∙ le-leb (u + n) (length (t .derived .entries)) l), (rw (cut-is, row .count ∙ cars-added t sound z (h .zone) (h .down) r (h .fit)), rw (ew, en, h .size .lengths .cars, row .written) (added-is t sound z (h .zone) (h .down) r (h .fit) b e (rw (shape, in-use sound ∙ sym (count-used t (size-of sound))) at ek)))))
         where
           row : RowMarked (shapeOf t) (t .records .cars) (t .records .spots) r (t .derived .rosters) m z (carRoom t) i
           row = rw (shape, room) at em

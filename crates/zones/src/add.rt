@@ -78,6 +78,6 @@ pub fn add_zone(
     edits::write_zone(zones, z, r);
     entries::add_keys(s, r, zone, used, starts, entries);
     let inside = rosters::fill_row(s, cars, spots, r, rosters, z, many);
-    tallies::write_count(tallies, z, inside as u32);
+    tallies::fill_tally(cars, rosters, tallies, z);
     Added::Done(n, inside)
 }

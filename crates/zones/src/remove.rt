@@ -37,6 +37,6 @@ pub fn remove_zone(
     edits::clear_zone(zones, z);
     entries::drop_keys(starts, entries, zone);
     rosters::clear_row(rosters, z, many);
-    tallies::write_count(tallies, z, 0);
+    tallies::clear_tally(tallies, z);
     Removed::Done
 }

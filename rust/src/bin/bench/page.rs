@@ -68,7 +68,7 @@ pub fn goals(all: &[Measured]) -> String {
         "| k | scan over library (at least 8) | library over by hand (at most 1.25) | add over report (below 100) | remove over report (below 100) | roster over count (at least 10) |\n|---|---|---|---|---|---|\n",
     );
     for one in all.iter().filter(|one| one.plan.name == "Large") {
-        let [report, _, _, add, remove, roster, _, count] = one.times;
+        let [report, _, _, add, remove, roster, _, count, _] = one.times;
         let met = |ratio: f64, yes: bool| format!("{ratio:.2}, {}", if yes { "met" } else { "not met" });
         let (scan, hand) = (report[1] / report[0], report[0] / report[3]);
         let (add, remove) = (add[0] / report[0], remove[0] / report[0]);
@@ -159,11 +159,11 @@ all its checks. The others check nothing, and take the floor alone for the cell,
 - **cells** keeps one list of zones for each unit cell;
 - **by hand** keeps lists for containment-encoded squares, as the library does, and looks into the squares that differ.
 
-All keep rosters and give the zones entered and left. The library alone keeps counts; for a count the others add up the
-bytes of a roster. A ratio is the other's time over the library's: above 1 the library is faster. Cars report in turn. In
-the first kind of moves each report is of another cell, one step away, or any cell once in a hundred times. In the second
-nine of ten stay in their cell. Zones have sides from 1 to 50. A zone that the entries have no room for is left out, for
-all.
+All keep rosters and give the zones entered and left. The library alone keeps counts, teams and holders; for a count the
+others add up the bytes of a roster, for a holder they do so for each team, car c being of team c modulo 8. A ratio is the
+other's time over the library's: above 1 the library is faster. Cars report in turn. In the first kind of moves each report
+is of another cell, one step away, or any cell once in a hundred times. In the second nine of ten stay in their cell. Zones
+have sides from 1 to 50. A zone that the entries have no room for is left out, for all.
 
 ![Large town](benchmark-large.svg)
 

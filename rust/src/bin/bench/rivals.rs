@@ -1,6 +1,6 @@
 //! What the library is measured against. All keep rosters and answer lists lowest first; none checks anything.
 
-use unwadegiro::{Capacities, Position, Rectangle, Refusal, Shape, Town};
+use unwadegiro::{Capacities, Position, Rectangle, Refusal, Shape, Standing, Team, Town};
 
 /// A town that can be measured. Every call is one that the library accepts.
 pub trait Engine {
@@ -12,7 +12,14 @@ pub trait Engine {
     fn roster(&mut self, zone: u32) -> &[u32];
     /// How many cars are in a zone.
     fn count(&self, zone: u32) -> u32;
+    /// How many cars of each team are in a zone, and who holds it.
+    fn holder(&self, zone: u32) -> Standing;
     fn clear(&mut self);
+}
+
+/// The team that a car has in all engines.
+fn team(car: u32) -> Team {
+    Team::new(car % 8).expect("a team up to 7")
 }
 
 /// The library, through its safe calls.
@@ -30,7 +37,7 @@ impl Engine for Library {
     }
 
     fn report(&mut self, car: u32, at: Position) -> (&[u32], &[u32]) {
-        let reported = self.0.report(car, at).expect(ACCEPTED);
+        let reported = self.0.report(car, team(car), at).expect(ACCEPTED);
         (reported.entered, reported.left)
     }
 
@@ -44,6 +51,10 @@ impl Engine for Library {
 
     fn count(&self, zone: u32) -> u32 {
         self.0.count(zone).expect(ACCEPTED)
+    }
+
+    fn holder(&self, zone: u32) -> Standing {
+        self.0.holder(zone).expect(ACCEPTED)
     }
 
     fn clear(&mut self) {
@@ -81,6 +92,8 @@ struct Base {
     room: Capacities,
     zones: Vec<Rectangle>,
     cars: Vec<Car>,
+    // given by the car's number; no report changes them
+    teams: Vec<Team>,
     rosters: Vec<u8>,
     entered: Vec<u32>,
     left: Vec<u32>,
@@ -94,6 +107,7 @@ impl Base {
             room,
             zones: vec![NOWHERE; zones],
             cars: vec![AWAY; cars],
+            teams: (0..room.cars).map(team).collect(),
             rosters: vec![0; zones * cars],
             entered: Vec::with_capacity(zones),
             left: Vec::with_capacity(zones),
@@ -165,6 +179,24 @@ impl Base {
         self.rosters[zone as usize * cars..][..cars].iter().map(|&has| has as u32).sum()
     }
 
+    /// Nor a holder: they add up the roster's bytes for each team.
+    fn holder(&self, zone: u32) -> Standing {
+        let room = self.room.cars as usize;
+        let mut cars = [0; 8];
+        for (&has, team) in self.rosters[zone as usize * room..][..room].iter().zip(&self.teams) {
+            cars[team.number() as usize] += has as u32;
+        }
+        let (mut most, mut holder) = (0, 0);
+        for (number, &many) in cars.iter().enumerate().skip(1) {
+            if many > most {
+                (most, holder) = (many, number as u32);
+            } else if many == most {
+                holder = 0;
+            }
+        }
+        Standing { cars, holder: Team::new(holder).filter(|&team| team != Team::SPECTATOR) }
+    }
+
     fn clear(&mut self) {
         self.zones.fill(NOWHERE);
         self.cars.fill(AWAY);
@@ -233,6 +265,10 @@ impl Engine for Scan {
 
     fn count(&self, zone: u32) -> u32 {
         self.0.count(zone)
+    }
+
+    fn holder(&self, zone: u32) -> Standing {
+        self.0.holder(zone)
     }
 
     fn clear(&mut self) {
@@ -318,6 +354,10 @@ impl Engine for Cells {
 
     fn count(&self, zone: u32) -> u32 {
         self.base.count(zone)
+    }
+
+    fn holder(&self, zone: u32) -> Standing {
+        self.base.holder(zone)
     }
 
     fn clear(&mut self) {
@@ -514,6 +554,10 @@ impl Engine for Squares {
 
     fn count(&self, zone: u32) -> u32 {
         self.base.count(zone)
+    }
+
+    fn holder(&self, zone: u32) -> Standing {
+        self.base.holder(zone)
     }
 
     fn clear(&mut self) {

@@ -21,7 +21,7 @@ pub const PLANS: [Plan; 2] = [
 ];
 
 /// The calls that are measured, in the order of the columns' values.
-pub const CALLS: [&str; 8] = [
+pub const CALLS: [&str; 9] = [
     "report, another cell",
     "report, nine of ten in the same cell",
     "search",
@@ -30,6 +30,7 @@ pub const CALLS: [&str; 8] = [
     "roster",
     "open",
     "count",
+    "holder",
 ];
 
 pub const ENGINES: [&str; 4] = ["library", "scan", "cells", "by hand"];
@@ -44,7 +45,7 @@ const OPENS: usize = 10;
 const BATCH: usize = 1_000;
 
 /// Nanoseconds a call, for each call and engine.
-pub type Times = [[f64; 4]; 8];
+pub type Times = [[f64; 4]; CALLS.len()];
 
 pub struct Measured {
     pub plan: Plan,
@@ -205,14 +206,14 @@ fn rosters(engine: &mut impl Engine, work: &Work, best: &mut Best) {
     }
 }
 
-/// All zones in turn, again and again within a batch: one count is short beside a look at the clock.
-fn counts(engine: &mut impl Engine, work: &Work, best: &mut Best) {
+/// All zones in turn, again and again within a batch: one count or holder is short beside a look at the clock.
+fn asks<T>(work: &Work, best: &mut Best, ask: impl Fn(u32) -> T) {
     let times = BATCH / work.zones.len() + 1;
     for _ in 0..COUNTS {
         let began = Instant::now();
         for _ in 0..times {
             for &(zone, _) in &work.zones {
-                black_box(engine.count(zone));
+                black_box(ask(zone));
             }
         }
         best.note(began, times * work.zones.len());
@@ -231,15 +232,16 @@ fn opens(engine: &mut impl Engine, work: &Work, best: &mut Best) {
 }
 
 /// One round of all calls.
-fn round(engine: &mut impl Engine, work: &Work, best: &mut [Best; 8]) {
+fn round(engine: &mut impl Engine, work: &Work, best: &mut [Best; CALLS.len()]) {
     best.iter_mut().for_each(Best::again);
-    let [far, near, search, add, remove, roster, open, count] = best;
+    let [far, near, search, add, remove, roster, open, count, holder] = best;
     reports(engine, work, &work.far, far);
     reports(engine, work, &work.near, near);
     searches(engine, work, search);
     zones(engine, work, add, remove);
     rosters(engine, work, roster);
-    counts(engine, work, count);
+    asks(work, count, |zone| engine.count(zone));
+    asks(work, holder, |zone| engine.holder(zone));
     opens(engine, work, open);
 }
 
@@ -284,6 +286,8 @@ impl Engines {
             let many = answer.len() as u32;
             let counts = [library.count(zone), scan.count(zone), cells.count(zone), squares.count(zone)];
             assert_eq!(counts, [many; 4], "roster and counts");
+            let holders = [scan.holder(zone), cells.holder(zone), squares.holder(zone)];
+            assert_eq!(holders, [library.holder(zone); 3], "library and others, a holder");
         }
         assert!(library.0.is_sound(), "the library's tables are sound");
     }
@@ -317,7 +321,7 @@ pub fn measure(plan: Plan, k: u32, seed: u64) -> Measured {
     work.fill(&mut engines.cells);
     work.fill(&mut engines.squares);
     engines.compare(&work);
-    let mut best: [[Best; 8]; 4] = Default::default();
+    let mut best: [[Best; CALLS.len()]; 4] = Default::default();
     for _ in 0..ROUNDS {
         round(&mut engines.proved, &work, &mut best[0]);
         round(&mut engines.scan, &work, &mut best[1]);

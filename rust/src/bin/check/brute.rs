@@ -1,4 +1,5 @@
-//! A town by the definitions of the request: zones and last positions are kept, everything else is worked out each time.
+//! A town by the definitions of the requests: zones, last positions and teams are kept, everything else is worked out each
+//! time.
 
 use crate::calls::Call;
 use std::collections::HashMap;
@@ -6,6 +7,12 @@ use unwadegiro::{Capacities, Rectangle, Shape, LEVEL};
 
 /// A cell: its column and row.
 pub type Cell = (u32, u32);
+
+/// Teams are numbered from 0 to this.
+pub const LAST_TEAM: u32 = 7;
+
+/// How many numbers a zone has in the tallies: its count, one for each team, and its holder.
+pub const TALLY: usize = 10;
 
 pub fn allowed(s: Shape) -> bool {
     let within = |blocks: u32| blocks >= 1 && (blocks as u64) << s.k <= 256;
@@ -125,12 +132,25 @@ fn count(list: &[u32]) -> u32 {
     list.len() as u32
 }
 
+/// The team from 1 on that has more cars than each other from 1 on, 0 where there is none. `cars` has one number a team.
+fn holder(cars: &[u32]) -> u32 {
+    let leads = |&team: &usize| (1..cars.len()).all(|other| other == team || cars[other] < cars[team]);
+    (1..cars.len()).find(leads).unwrap_or(0) as u32
+}
+
+/// A car on the map: its position's bits, and its team, which in unsound tables may be above 7.
+#[derive(Clone, Copy, Debug)]
+pub struct Car {
+    pub at: [u32; 2],
+    pub team: u32,
+}
+
 #[derive(Clone, Debug)]
 pub struct Brute {
     pub shape: Shape,
     pub room: Capacities,
     pub zones: Vec<Option<Rectangle>>,
-    pub cars: Vec<Option<[u32; 2]>>,
+    pub cars: Vec<Option<Car>>,
     // cuts worked out before: a cut follows from shape and rectangle alone
     cuts: HashMap<Rectangle, Vec<u32>>,
 }
@@ -166,7 +186,7 @@ impl Brute {
     }
 
     pub fn car_cell(&self, car: u32) -> Option<Cell> {
-        self.cars[car as usize].and_then(|at| cell(self.shape, at))
+        self.cars[car as usize].and_then(|car| cell(self.shape, car.at))
     }
 
     pub fn in_zone(&self, zone: u32, car: u32) -> bool {
@@ -180,9 +200,17 @@ impl Brute {
         (0..self.room.cars).filter(|&car| self.car_cell(car).is_some_and(|at| holds(r, at))).collect()
     }
 
-    /// How many cars are in a zone, each looked for; 0 where it does not stand.
-    pub fn count(&self, zone: u32) -> u32 {
-        count(&self.zones[zone as usize].map_or(vec![], |r| self.roster(r)))
+    /// A zone's numbers, each car looked for; all 0 where it does not stand.
+    pub fn tally(&self, zone: u32) -> [u32; TALLY] {
+        let inside = self.zones[zone as usize].map_or(vec![], |r| self.roster(r));
+        let mut all = [0; TALLY];
+        all[0] = count(&inside);
+        for team in 0..=LAST_TEAM {
+            let of_team = |car: &&u32| self.cars[**car as usize].is_some_and(|car| car.team == team);
+            all[1 + team as usize] = inside.iter().filter(of_team).count() as u32;
+        }
+        all[TALLY - 1] = holder(&all[1..TALLY - 1]);
+        all
     }
 
     /// Twice the levels on which two cells lie in different squares.
@@ -213,7 +241,7 @@ impl Brute {
         record.ok_or(7)
     }
 
-    fn placed_car(&self, car: u32) -> Result<[u32; 2], u32> {
+    fn placed_car(&self, car: u32) -> Result<Car, u32> {
         let record = self.cars.get(car as usize).ok_or(5u32)?;
         record.ok_or(8)
     }
@@ -222,9 +250,12 @@ impl Brute {
         buffers.iter().any(|&length| length < self.room.zones as usize)
     }
 
-    fn report(&self, car: u32, at: [u32; 2], buffers: &[usize]) -> Answer {
+    fn report(&self, car: u32, team: u32, at: [u32; 2], buffers: &[usize]) -> Answer {
         if car >= self.room.cars {
             return refused(5);
+        }
+        if team > LAST_TEAM || self.cars[car as usize].is_some_and(|car| car.team != team) {
+            return refused(15);
         }
         let Some(new) = cell(self.shape, at) else { return refused(10) };
         if self.short(buffers) {
@@ -282,16 +313,20 @@ impl Brute {
                 Ok(_) => done(vec![], vec![]),
                 Err(refusal) => refused(refusal),
             },
-            Call::Report { car, at } => self.report(car, at, buffers),
+            Call::Report { car, team, at } => self.report(car, team, at, buffers),
             Call::Leave { car } => self.leave(car, buffers),
             Call::Search { at } => self.search(at, buffers),
             Call::Roster { zone } => self.list(zone, buffers),
             Call::Count { zone } => match self.standing_zone(zone) {
-                Ok(_) => done(vec![self.count(zone)], vec![]),
+                Ok(_) => done(self.tally(zone)[..1].to_vec(), vec![]),
+                Err(refusal) => refused(refusal),
+            },
+            Call::Holder { zone } => match self.standing_zone(zone) {
+                Ok(_) => done(self.tally(zone)[1..].to_vec(), vec![]),
                 Err(refusal) => refused(refusal),
             },
             Call::Where { car } => match self.placed_car(car) {
-                Ok(at) => done(at.to_vec(), vec![]),
+                Ok(car) => done(car.at.to_vec(), vec![]),
                 Err(refusal) => refused(refusal),
             },
             Call::Sound => done(vec![1], vec![]),
@@ -304,7 +339,7 @@ impl Brute {
         match *call {
             Call::Add { zone, r } => self.zones[zone as usize] = Some(r),
             Call::Remove { zone } => self.zones[zone as usize] = None,
-            Call::Report { car, at } => self.cars[car as usize] = Some(at),
+            Call::Report { car, team, at } => self.cars[car as usize] = Some(Car { at, team }),
             Call::Leave { car } => self.cars[car as usize] = None,
             _ => {}
         }
@@ -391,20 +426,49 @@ mod tests {
         assert!(allowed(Shape { k: 5, p: 8, q: 1 }) && !allowed(Shape { k: 5, p: 9, q: 1 }));
     }
 
+    fn half(cell: u32) -> u32 {
+        (cell as f32 + 0.5).to_bits()
+    }
+
     #[test]
-    fn the_count_of_a_zone() {
+    fn the_numbers_of_a_zone() {
         let mut town = Brute::new(TOWN, Capacities { zones: 2, cars: 3, entries: 64 });
-        let half = |cell: u32| (cell as f32 + 0.5).to_bits();
         town.apply(&Call::Add { zone: 1, r: Rectangle { a: 5, b: 2, w: 8, h: 12 } });
-        for (car, x) in [(0, 4), (1, 5), (2, 12)] {
-            town.apply(&Call::Report { car, at: [half(x), half(13)] });
+        for (car, team, x) in [(0, 7, 4), (1, 0, 5), (2, 2, 12)] {
+            town.apply(&Call::Report { car, team, at: [half(x), half(13)] });
         }
-        assert_eq!([0, 1].map(|zone| town.count(zone)), [0, 2]);
-        town.apply(&Call::Report { car: 2, at: [half(13), half(13)] });
+        assert_eq!([0, 1].map(|zone| town.tally(zone)), [[0; TALLY], [2, 1, 0, 1, 0, 0, 0, 0, 0, 2]]);
+        town.apply(&Call::Report { car: 2, team: 2, at: [half(13), half(13)] });
         town.apply(&Call::Leave { car: 0 });
-        assert_eq!([0, 1].map(|zone| town.count(zone)), [0, 1]);
+        assert_eq!([0, 1].map(|zone| town.tally(zone)), [[0; TALLY], [1, 1, 0, 0, 0, 0, 0, 0, 0, 0]]);
         let told = [0, 1, 2].map(|zone| town.answer(&Call::Count { zone }, &[]));
         assert_eq!(told, [refused(7), done(vec![1], vec![]), refused(4)]);
+        let told = [0, 1, 2].map(|zone| town.answer(&Call::Holder { zone }, &[]));
+        assert_eq!(told, [refused(7), done(vec![1, 0, 0, 0, 0, 0, 0, 0, 0], vec![]), refused(4)]);
+    }
+
+    #[test]
+    fn the_holder_of_a_zone() {
+        assert_eq!(holder(&[9, 0, 0, 0, 0, 0, 0, 0]), 0);
+        assert_eq!(holder(&[9, 0, 0, 0, 0, 0, 0, 1]), 7);
+        assert_eq!(holder(&[9, 2, 0, 2, 0, 0, 0, 1]), 0);
+        assert_eq!(holder(&[0, 3, 2, 2, 0, 0, 0, 0]), 1);
+        assert_eq!(holder(&[0, 2, 2, 0, 0, 3, 0, 3]), 0);
+    }
+
+    #[test]
+    fn the_team_of_a_car() {
+        let mut town = Brute::new(TOWN, Capacities { zones: 1, cars: 1, entries: 1 });
+        let (on, off) = ([half(1), half(1)], [half(16), half(1)]);
+        let got = |town: &mut Brute, car, team, at| town.answer(&Call::Report { car, team, at }, &[0, 0]).refusal;
+        assert_eq!([7, 8, u32::MAX].map(|team| got(&mut town, 0, team, on)), [11, 15, 15]);
+        assert_eq!([7, 8].map(|team| got(&mut town, 0, team, off)), [10, 15]);
+        assert_eq!(got(&mut town, 1, 8, off), 5);
+        for stored in [2, 8] {
+            town.cars[0] = Some(Car { at: on, team: stored });
+            let should = if stored == 2 { [15, 11, 15] } else { [15; 3] };
+            assert_eq!([1, 2, 8].map(|team| got(&mut town, 0, team, on)), should);
+        }
     }
 
     #[test]

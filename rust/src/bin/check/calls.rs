@@ -10,11 +10,12 @@ pub enum Call {
     Open { shape: Shape, room: Capacities },
     Add { zone: u32, r: Rectangle },
     Remove { zone: u32 },
-    Report { car: u32, at: [u32; 2] },
+    Report { car: u32, team: u32, at: [u32; 2] },
     Leave { car: u32 },
     Search { at: [u32; 2] },
     Roster { zone: u32 },
     Count { zone: u32 },
+    Holder { zone: u32 },
     Where { car: u32 },
     Sound,
     Lengths { shape: Shape, room: Capacities },
@@ -38,15 +39,16 @@ const fn kind(name: &'static str, fields: usize, buffers: usize, refusals: &'sta
     Kind { name, fields, buffers, refusals }
 }
 
-pub const KINDS: [Kind; 14] = [
+pub const KINDS: [Kind; 15] = [
     kind("open", 0, 0, &[1, 2, 3]),
     kind("add", 2, 0, &[3, 4, 6, 9, 12]),
     kind("remove", 0, 0, &[3, 4, 7]),
-    kind("report", 3, 2, &[3, 5, 10, 11]),
+    kind("report", 3, 2, &[3, 5, 15, 10, 11]),
     kind("leave", 2, 1, &[3, 5, 8, 11]),
     kind("search", 2, 1, &[3, 10, 11]),
     kind("roster", 1, 1, &[3, 4, 7, 11]),
     kind("count", 1, 0, &[3, 4, 7]),
+    kind("holder", 9, 0, &[3, 4, 7]),
     kind("where", 2, 0, &[3, 5, 8]),
     kind("sound", 1, 0, &[3]),
     kind("lengths", 8, 0, &[1, 2]),
@@ -66,12 +68,13 @@ impl Call {
             Call::Search { .. } => 5,
             Call::Roster { .. } => 6,
             Call::Count { .. } => 7,
-            Call::Where { .. } => 8,
-            Call::Sound => 9,
-            Call::Lengths { .. } => 10,
-            Call::Number { .. } => 11,
-            Call::Square { .. } => 12,
-            Call::Cut { .. } => 13,
+            Call::Holder { .. } => 8,
+            Call::Where { .. } => 9,
+            Call::Sound => 10,
+            Call::Lengths { .. } => 11,
+            Call::Number { .. } => 12,
+            Call::Square { .. } => 13,
+            Call::Cut { .. } => 14,
         }
     }
 
@@ -81,7 +84,7 @@ impl Call {
 
     /// Whether it is lent a town's tables, and asks what stands in them.
     pub fn asks_town(&self) -> bool {
-        (1..=9).contains(&self.index())
+        (1..=10).contains(&self.index())
     }
 
     /// Which tables it may change, in their order.
@@ -311,6 +314,15 @@ pub fn position(random: &mut Random, s: Shape, from: Option<[u32; 2]>) -> [u32; 
     at
 }
 
+/// A team for a report: mostly the one that the car has, or any where it is off the map; at times one above 7.
+fn team(random: &mut Random, own: Option<u32>) -> u32 {
+    match random.below(24) {
+        0 => random.pick(&[8, 9, 263, 1 << 31, u32::MAX - 1, u32::MAX]),
+        1 => random.below(8),
+        _ => own.unwrap_or_else(|| random.below(8)),
+    }
+}
+
 /// A call that is lent no town's tables, or opens one.
 fn call_on_shape(random: &mut Random, town: &Brute) -> Call {
     let shape = any_shape(random);
@@ -385,7 +397,8 @@ pub fn call(random: &mut Random, town: &Brute) -> Call {
         0..=44 => {
             let car = any_below(random, town.room.cars);
             let from = town.cars.get(car as usize).copied().flatten();
-            Call::Report { car, at: position(random, s, from) }
+            let team = team(random, from.map(|from| from.team));
+            Call::Report { car, team, at: position(random, s, from.map(|from| from.at)) }
         }
         45..=54 => {
             let mut zone = any_below(random, town.room.zones);
@@ -401,14 +414,14 @@ pub fn call(random: &mut Random, town: &Brute) -> Call {
         60..=64 => Call::Leave { car: any_below(random, town.room.cars) },
         65..=74 => {
             let car = random.below(town.room.cars);
-            Call::Search { at: position(random, s, town.cars[car as usize]) }
+            Call::Search { at: position(random, s, town.cars[car as usize].map(|from| from.at)) }
         }
         75..=83 => {
             let zone = if random.once_in(3) { any_below(random, town.room.zones) } else { standing(random, town) };
-            if random.once_in(2) {
-                Call::Roster { zone }
-            } else {
-                Call::Count { zone }
+            match random.below(3) {
+                0 => Call::Roster { zone },
+                1 => Call::Count { zone },
+                _ => Call::Holder { zone },
             }
         }
         84..=88 => Call::Where { car: any_below(random, town.room.cars) },

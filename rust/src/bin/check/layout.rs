@@ -1,6 +1,6 @@
 //! What stands in the tables, by docs/LAYOUT.md, worked out from the records.
 
-use crate::brute::{allowed, cell, fits, roomy, squares_on, Brute};
+use crate::brute::{allowed, cell, fits, roomy, squares_on, Brute, Car, LAST_TEAM, TALLY};
 use crate::lent::Tables;
 use unwadegiro::{Capacities, Rectangle, Shape, LEVEL};
 
@@ -14,7 +14,8 @@ pub fn squares(s: Shape) -> u32 {
 /// The lengths of the tables, for a shape and capacities within the bounds.
 pub fn lengths(s: Shape, room: Capacities) -> [usize; 8] {
     let Capacities { zones, cars, entries } = room;
-    [6, 4 * zones, cars, 2 * cars, squares(s) + 1, entries, zones * cars, zones].map(|length| length as usize)
+    [6, 4 * zones, cars, 2 * cars, squares(s) + 1, entries, zones * cars, TALLY as u32 * zones]
+        .map(|length| length as usize)
 }
 
 /// The keys of all standing zones, rising, then free marks; and for each place how many keys lie before it. None where
@@ -56,7 +57,7 @@ pub fn rosters(town: &Brute) -> Vec<u8> {
 
 /// The tallies, zone by zone.
 pub fn tallies(town: &Brute) -> Vec<u32> {
-    (0..town.room.zones).map(|zone| town.count(zone)).collect()
+    (0..town.room.zones).flat_map(|zone| town.tally(zone)).collect()
 }
 
 /// The records in the tables as lent; none where check 3 does not pass.
@@ -71,9 +72,10 @@ pub fn read(tables: &Tables) -> Option<Brute> {
         let r = Rectangle { a: record[0], b: record[1], w: record[2], h: record[3] };
         town.zones[zone] = (r.w != 0).then_some(r);
     }
-    for (car, &on) in tables.cars.now().iter().enumerate() {
+    for (car, &number) in tables.cars.now().iter().enumerate() {
         let spots = tables.spots.now();
-        town.cars[car] = (on != 0).then_some([spots[2 * car], spots[2 * car + 1]]);
+        let at = [spots[2 * car], spots[2 * car + 1]];
+        town.cars[car] = number.checked_sub(1).map(|team| Car { at, team });
     }
     Some(town)
 }
@@ -84,7 +86,7 @@ pub fn sound(town: &mut Brute, tables: &Tables) -> bool {
     if !town.zones.iter().flatten().all(|&r| fits(shape, r)) {
         return false;
     }
-    if !town.cars.iter().flatten().all(|&at| cell(shape, at).is_some()) {
+    if !town.cars.iter().flatten().all(|car| cell(shape, car.at).is_some() && car.team <= LAST_TEAM) {
         return false;
     }
     match lists(town) {

@@ -11,6 +11,7 @@ const GUARD: usize = 24;
 pub const SLACK: usize = 8;
 /// The tables, in the order in which they are lent.
 pub const TABLES: [&str; 8] = ["head", "zones", "cars", "spots", "starts", "entries", "rosters", "tallies"];
+pub const CARS: usize = 2;
 pub const SPOTS: usize = 3;
 pub const STARTS: usize = 4;
 pub const ENTRIES: usize = 5;
@@ -316,9 +317,9 @@ pub fn drive(call: &Call, t: &mut Tables, buffers: &mut [Lent<u32>], values: &mu
             Call::Remove { zone } => {
                 lend!(unwadegiro_remove, t, [shared mutable shared shared mutable mutable mutable mutable], zone)
             }
-            Call::Report { car, at } => lend!(
+            Call::Report { car, team, at } => lend!(
                 unwadegiro_report, t, [shared shared mutable mutable shared shared mutable mutable],
-                car, float(at[0]), float(at[1]), out, out_len, left, left_len, told, told_len
+                car, team, float(at[0]), float(at[1]), out, out_len, left, left_len, told, told_len
             ),
             Call::Leave { car } => lend!(
                 unwadegiro_leave, t, [shared shared mutable shared shared shared mutable mutable],
@@ -329,6 +330,7 @@ pub fn drive(call: &Call, t: &mut Tables, buffers: &mut [Lent<u32>], values: &mu
             }
             Call::Roster { zone } => read!(unwadegiro_roster, t, zone, out, out_len, told, told_len),
             Call::Count { zone } => read!(unwadegiro_count, t, zone, told, told_len),
+            Call::Holder { zone } => read!(unwadegiro_holder, t, zone, told, told_len),
             Call::Where { car } => read!(unwadegiro_where, t, car, told.cast(), told_len),
             Call::Sound => read!(unwadegiro_sound, t, told, told_len),
             _ => drive_shape(call, (out, out_len), (told, told_len)),

@@ -9,7 +9,7 @@ use unwadegiro::Shape;
 
 const LOG: &[u8] = include_bytes!("../../../../tests/long.log");
 const ANSWERS: &[u8] = include_bytes!("../../../../tests/long.answers");
-const LENGTHS: [usize; 8] = [6, 64, 64, 128, 5462, 2048, 1024, 16];
+const LENGTHS: [usize; 8] = [6, 64, 64, 128, 5462, 2048, 1024, 160];
 const HELD: usize = 82;
 const LEAST: usize = 768;
 
@@ -122,8 +122,8 @@ impl Logs<'_> {
         self.held.put(HELD - 1, count);
     }
 
-    /// Looks at the open town, if there is one: its tables are sound, and each zone's count is the cars that are found
-    /// inside.
+    /// Looks at the open town, if there is one: its tables are sound, every car has team 0, and each zone's count and the
+    /// cars of each team are those that are found inside.
     fn look(&mut self) {
         let &[k, p, q, ..] = self.tables.head.now() else { unreachable!("head has six numbers") };
         if p == 0 {
@@ -134,9 +134,11 @@ impl Logs<'_> {
         if !layout::sound(&mut town, &self.tables) {
             fail("the open town is not sound");
         }
-        for zone in 0..town.room.zones {
-            let call = Call::Count { zone };
-            let mut values = Lent::noise(1, self.random);
+        if town.cars.iter().flatten().any(|car| car.team != 0) {
+            fail("a car has another team than 0");
+        }
+        for call in (0..town.room.zones).flat_map(|zone| [Call::Count { zone }, Call::Holder { zone }]) {
+            let mut values = Lent::noise(call.kind().fields, self.random);
             let returned = drive(&call, &mut self.tables, &mut [], &mut values);
             let should = town.answer(&call, &[]);
             if returned != should.refusal || returned == 0 && values.now() != should.values {

@@ -9,9 +9,9 @@ mod lent;
 mod logs;
 mod random;
 
-use brute::{Answer, Brute};
+use brute::{Answer, Brute, Car, LAST_TEAM, TALLY};
 use calls::{Call, Size, KINDS};
-use lent::{Lent, Slice, Tables, ENTRIES, SLACK, SPOTS, TABLES, TALLIES};
+use lent::{Lent, Slice, Tables, CARS, ENTRIES, SLACK, SPOTS, TABLES, TALLIES};
 use random::Random;
 use std::{env, process};
 use unwadegiro::{Capacities, Shape};
@@ -30,7 +30,7 @@ struct Check {
     state: State,
     made: u64,
     // how often each kind of call got each number
-    seen: [[u64; 14]; KINDS.len()],
+    seen: [[u64; 16]; KINDS.len()],
     sound_said: [u64; 2],
     // how often one number changed in each table made the tables unsound
     unsound: [u64; TABLES.len()],
@@ -38,6 +38,10 @@ struct Check {
     nans: [u64; 4],
     // positions at the end of x and of y that were accepted, and those one float past it that got 10
     walls: [u64; 4],
+    // reports that got 15: of a team above 7, of another than the car's, and of a car with a team above 7
+    teams: [u64; 3],
+    // zones of sound tables that a team holds, that nobody holds by a tie, and with no car of a team from 1 on
+    held: [u64; 3],
 }
 
 /// Says what was wrong, and ends.
@@ -60,11 +64,13 @@ impl Check {
             town,
             state: State::Any,
             made: 0,
-            seen: [[0; 14]; KINDS.len()],
+            seen: [[0; 16]; KINDS.len()],
             sound_said: [0; 2],
             unsound: [0; TABLES.len()],
             nans: [0; 4],
             walls: [0; 4],
+            teams: [0; 3],
+            held: [0; 3],
         }
     }
 
@@ -122,8 +128,8 @@ impl Check {
         values
     }
 
-    /// What the call should answer. On tables that may be unsound the records are read from the tables, and the count of
-    /// a zone is the stored one.
+    /// What the call should answer. On tables that may be unsound the records are read from the tables, and the numbers of
+    /// a zone are the stored ones.
     fn expect(&mut self, call: &Call, buffers: &[usize]) -> Answer {
         if !call.asks_town() {
             return brute::answer_shape(call, self.tables.lent(), buffers);
@@ -147,11 +153,19 @@ impl Check {
                 answer.values = vec![layout::sound(&mut self.town, &self.tables) as u32];
             }
             Call::Count { zone } if self.state == State::Any && answer.refusal == 0 => {
-                answer.values = vec![self.tables.tallies.get(zone as usize)];
+                answer.values = self.stored(zone)[..1].to_vec();
+            }
+            Call::Holder { zone } if self.state == State::Any && answer.refusal == 0 => {
+                answer.values = self.stored(zone)[1..].to_vec();
             }
             _ => {}
         }
         answer
+    }
+
+    /// What stands in the tallies of a zone.
+    fn stored(&self, zone: u32) -> &[u32] {
+        &self.tables.tallies.now()[TALLY * zone as usize..][..TALLY]
     }
 
     /// Makes a call and compares what it returned, every value, every buffer, every table and the bytes around them.
@@ -163,7 +177,7 @@ impl Check {
         let answer = self.expect(&call, &lengths);
         let returned = lent::drive(&call, &mut self.tables, &mut buffers, &mut values);
         self.made += 1;
-        let set = matches!(call, Call::Sound | Call::Where { .. } | Call::Count { .. });
+        let set = matches!(call, Call::Sound | Call::Where { .. } | Call::Count { .. } | Call::Holder { .. });
         let gap = self.state == State::Any && call.asks_town() && !set;
         let either = gap && matches!(call, Call::Add { .. }) && [0, 12].contains(&answer.refusal);
         if returned != answer.refusal && !(either && [0, 12].contains(&returned)) {
@@ -184,6 +198,31 @@ impl Check {
         if let Call::Report { at, .. } | Call::Search { at } = call {
             self.count_walls(at, returned);
         }
+        match call {
+            Call::Report { car, team, .. } if returned == 15 => self.count_team(car, team),
+            Call::Holder { .. } if returned == 0 && self.state == State::Sound => self.count_held(&answer.values),
+            _ => {}
+        }
+    }
+
+    /// Counts a report's refused team.
+    fn count_team(&mut self, car: u32, team: u32) {
+        match self.town.cars[car as usize] {
+            Some(car) if car.team > LAST_TEAM => self.teams[2] += 1,
+            _ if team > LAST_TEAM => self.teams[0] += 1,
+            _ => self.teams[1] += 1,
+        }
+    }
+
+    /// Counts a zone by who holds it.
+    fn count_held(&mut self, standing: &[u32]) {
+        let (holder, cars) = standing.split_last().expect("a holder behind the cars of each team");
+        let kind = match holder {
+            0 if cars[1..].iter().all(|&many| many == 0) => 2,
+            0 => 1,
+            _ => 0,
+        };
+        self.held[kind] += 1;
     }
 
     /// Counts a position at the outer walls, and one just past them, by what it got.
@@ -272,8 +311,8 @@ impl Check {
                 tables.zones.image()[4 * zone as usize + 2] = 0;
                 derive_zone(town, tables, zone);
             }
-            Call::Report { car, at } => {
-                tables.cars.image()[car as usize] = 1;
+            Call::Report { car, team, at } => {
+                tables.cars.image()[car as usize] = 1 + team;
                 tables.spots.image()[2 * car as usize..][..2].copy_from_slice(&at);
                 derive_car(town, tables, car);
             }
@@ -299,12 +338,12 @@ impl Check {
         }
     }
 
-    /// Asks a sound town for the count of every zone number, and compares it with the cars that are found inside.
+    /// Asks a sound town for the count and the holder of every zone number, and compares them with the cars that are found
+    /// inside.
     fn compare_counts(&mut self) {
         self.tables.lend(None);
-        for zone in 0..self.town.room.zones {
-            let call = Call::Count { zone };
-            let mut values = Lent::noise(1, &mut self.random);
+        for call in (0..self.town.room.zones).flat_map(|zone| [Call::Count { zone }, Call::Holder { zone }]) {
+            let mut values = Lent::noise(call.kind().fields, &mut self.random);
             let returned = lent::drive(&call, &mut self.tables, &mut [], &mut values);
             let should = self.town.answer(&call, &[]);
             if returned != should.refusal || returned == 0 && values.now() != should.values {
@@ -313,15 +352,15 @@ impl Check {
             }
         }
         if !self.tables.wrong().is_empty() {
-            fail(&Call::Count { zone: 0 }, "asking for the counts changed a table", self);
+            fail(&Call::Count { zone: 0 }, "asking for counts and holders changed a table", self);
         }
     }
 
-    /// Changes one number of the tables and asks whether they are sound, then puts it back. A zone's changed count is
-    /// told as it stands.
+    /// Changes one number of the tables and asks whether they are sound, then puts it back. A zone's changed number is told
+    /// as it stands, and a car's changed team is its team.
     fn probe(&mut self) {
         let random = &mut self.random;
-        let table = random.pick(&[1usize, 2, 3, 4, 4, 5, 5, 6, 6, TALLIES, TALLIES]);
+        let table = random.pick(&[1usize, CARS, CARS, 3, 4, 4, 5, 5, 6, 6, TALLIES, TALLIES]);
         let at = random.below(self.tables.own()[table] as u32) as usize;
         let change = random.below(6);
         let other = random.bits();
@@ -340,8 +379,14 @@ impl Check {
         if !self.ask_sound() {
             self.unsound[table] += 1;
         }
-        if table == TALLIES {
-            self.make(Call::Count { zone: at as u32 });
+        match table {
+            TALLIES => {
+                let zone = (at / TALLY) as u32;
+                self.make(Call::Count { zone });
+                self.make(Call::Holder { zone });
+            }
+            CARS => self.probe_team(at, old),
+            _ => {}
         }
         self.tables.each()[table].put(at, old);
         self.tables.lend(None);
@@ -349,7 +394,21 @@ impl Check {
         self.town = layout::read(&self.tables).expect("sound tables pass check 3");
     }
 
-    /// Changes a number that means nothing, or a car's number to another that means on the map: the tables stay sound.
+    /// Reports a car whose team was changed, with its old team and with the changed one above 7. All are refused, so they
+    /// change nothing.
+    fn probe_team(&mut self, car: usize, old: u32) {
+        let new = self.tables.cars.get(car);
+        if old == 0 || new == 0 || new == old {
+            return;
+        }
+        let at = [0, 1].map(|side| self.tables.spots.get(2 * car + side));
+        self.make(Call::Report { car: car as u32, team: old - 1, at });
+        if new - 1 > LAST_TEAM {
+            self.make(Call::Report { car: car as u32, team: new - 1, at });
+        }
+    }
+
+    /// Changes a number that means nothing, or the team of a car that no zone holds: the tables stay sound.
     fn stir(&mut self) {
         let random = &mut self.random;
         let (zone, car) = (random.below(self.town.room.zones) as usize, random.below(self.town.room.cars) as usize);
@@ -361,7 +420,14 @@ impl Check {
                 let bits = if random.once_in(2) { calls::nan(random) } else { random.bits() };
                 self.tables.spots.put(2 * car + random.below(2) as usize, bits);
             }
-            Some(_) => self.tables.cars.put(car, random.between(1, u32::MAX - 1)),
+            Some(placed) => {
+                let inside = (0..self.town.room.zones).any(|zone| self.town.in_zone(zone, car as u32));
+                if !inside {
+                    let team = random.below(LAST_TEAM + 1);
+                    self.tables.cars.put(car, 1 + team);
+                    self.town.cars[car] = Some(Car { team, ..placed });
+                }
+            }
         }
     }
 
@@ -392,6 +458,8 @@ impl Check {
                 let word = match random.below(4) {
                     0 if table == SPOTS && random.once_in(2) => calls::nan(random),
                     0 => random.bits(),
+                    // mostly a team that a car may have
+                    1..=2 if table == CARS => random.below(10),
                     1 => random.below(4),
                     2 => random.below(300),
                     _ => random.below(own[ENTRIES] as u32 + 2),
@@ -406,7 +474,8 @@ impl Check {
         for _ in 0..8 {
             let random = &mut self.random;
             let car = random.below(self.tables.cars.own() as u32);
-            self.tables.cars.put(car as usize, random.between(1, u32::MAX - 1));
+            let most = if random.once_in(3) { u32::MAX } else { 8 };
+            self.tables.cars.put(car as usize, random.between(1, most));
             let first = 2 * car as usize;
             let which = random.between(1, 3);
             for side in 0..2 {
@@ -507,11 +576,16 @@ impl Check {
         println!(
             "at the walls: x = W {east}, y = H {north}; one float past them, refused: x {past_east}, y {past_north}"
         );
-        all && self.sound_said.iter().chain(&self.nans).chain(&self.walls).all(|&times| times > 0)
+        let [above, other, stored] = self.teams;
+        println!("teams refused: above 7 {above}, not the car's {other}, of a car with one above 7 {stored}");
+        let [team, tie, none] = self.held;
+        println!("zones held by a team {team}; by nobody: a tie {tie}, no car of a team {none}");
+        let counts = [&self.sound_said[..], &self.nans, &self.walls, &self.teams, &self.held];
+        all && counts.into_iter().flatten().all(|&times| times > 0)
     }
 }
 
-/// What an added or removed zone changes: its roster and its count, and all lists.
+/// What an added or removed zone changes: its roster and its numbers, and all lists.
 fn derive_zone(town: &mut Brute, tables: &mut Tables, zone: u32) {
     let (starts, entries) = layout::lists(town).expect("an accepted add has room");
     tables.starts.image().copy_from_slice(&starts);
@@ -519,17 +593,22 @@ fn derive_zone(town: &mut Brute, tables: &mut Tables, zone: u32) {
     for car in 0..town.room.cars {
         tables.rosters.image()[(zone * town.room.cars + car) as usize] = town.in_zone(zone, car) as u8;
     }
-    tables.tallies.image()[zone as usize] = town.count(zone);
+    derive_tally(town, tables, zone);
 }
 
-/// What a report or a leave changes: its car on all rosters, and the counts of the zones whose roster changes.
+/// The numbers of a zone.
+fn derive_tally(town: &Brute, tables: &mut Tables, zone: u32) {
+    tables.tallies.image()[TALLY * zone as usize..][..TALLY].copy_from_slice(&town.tally(zone));
+}
+
+/// What a report or a leave changes: its car on all rosters, and the numbers of the zones whose roster changes.
 fn derive_car(town: &Brute, tables: &mut Tables, car: u32) {
     for zone in 0..town.room.zones {
         let byte = &mut tables.rosters.image()[(zone * town.room.cars + car) as usize];
         let inside = town.in_zone(zone, car) as u8;
         if *byte != inside {
             *byte = inside;
-            tables.tallies.image()[zone as usize] = town.count(zone);
+            derive_tally(town, tables, zone);
         }
     }
 }

@@ -1,4 +1,4 @@
--- `leave_map` marks the car off the map, looks into the squares of its cell, clears its byte in their zones' rows and moves their counts.
+-- `leave_map` marks the car off the map, looks into the squares of its cell, clears its byte in their zones' rows and turns their numbers.
 use mathlib.Core.Path.{refl, sym, _∙_}
 use native.Mathlib.Omega.{arith}
 use Rattle.order.specs.BufferLaws.{front-within, count-front}
@@ -15,14 +15,20 @@ use Rattle.cars.proofs.leave.leave_map.Tie as tie
 abbrev start : tie.Else1 → tie.Start
 start c = c .before .before .before .before .before .before .before .before .before .before .before .before .before .before .before
 
-abbrev passed : tie.After-spot-in → tie.Else1
-passed c = c .before .before .before .before .before .before
+abbrev passed : tie.After-shape-in → tie.Else1
+passed c = c .before
 
-abbrev shaped : tie.After-spot-in → tie.After-shape-in
-shaped c = c .before .before .before .before .before
+abbrev shaped : tie.After-slot-in → tie.After-shape-in
+shaped c = c .before .before
+
+abbrev teamed : tie.After-write-car → tie.After-slot-in
+teamed c = c .before .before
 
 abbrev written : tie.After-spot-in → tie.After-write-car
 written c = c .before .before .before
+
+abbrev shape : tie.After-spot-in → tie.After-shape-in
+shape c = shaped (teamed (written c))
 
 abbrev stored : tie.After-locate → tie.After-spot-in
 stored c = c .before
@@ -71,11 +77,14 @@ returns c = keeps-refused _ _ _ _ (c .if1 .taken) (c .before .refuse-leave .ensu
 shape-in-requires : tie.Need-shape-in-requires
 shape-in-requires c κs = omega (arith, ok c .size .lengths .head)
 
+slot-in-requires : tie.Need-slot-in-requires
+slot-in-requires c κs = let k = ok (passed (c .before)) in omega (arith, k .size .lengths .cars, k .car)
+
 write-car-requires : tie.Need-write-car-requires
-write-car-requires c κs = let k = ok (c .before .before) in omega (arith, k .size .lengths .cars, k .car)
+write-car-requires c κs = let k = ok (passed (shaped (c .before))) in omega (arith, k .size .lengths .cars, k .car)
 
 spot-in-requires : tie.Need-spot-in-requires
-spot-in-requires c κs = let k = ok (c .before .before .before .before .before) in omega (arith, k .size .lengths .spots, k .car)
+spot-in-requires c κs = let k = ok (passed (shaped (teamed (c .before .before)))) in omega (arith, k .size .lengths .spots, k .car)
 
 locate-requires : tie.Need-locate-requires
 locate-requires c κs = search needs
@@ -102,14 +111,14 @@ returns-2 : tie.Need-returns-2
 returns-2 c =
     let at = c .before .before in
     let spot = stored at in
-    lost-kept (ok (passed spot)) (shaped spot .shape-in .ensures) (spot .spot-in .ensures) (at .locate .ensures) (c .enum-told .given .1) _
+    lost-kept (ok (passed (shape spot))) (shape spot .shape-in .ensures) (spot .spot-in .ensures) (at .locate .ensures) (c .enum-told .given .1) _
 
 look-up-requires : tie.Need-look-up-requires
 look-up-requires c κs =
     let x = c .before .before in
     let at = located x in
     let spot = stored at in
-    leave-asks (ok (passed spot)) (shaped spot .shape-in .ensures) (spot .spot-in .ensures) (at .locate .ensures) (x .x .given .1)
+    leave-asks (ok (passed (shape spot))) (shape spot .shape-in .ensures) (spot .spot-in .ensures) (at .locate .ensures) (x .x .given .1)
 
 slice-reshare-prefix-stamp-rows : tie.Need-slice-reshare-prefix-stamp-rows
 slice-reshare-prefix-stamp-rows c = let saw = c .before .before .before in front-within (saw .look-up .ensures .found)
@@ -118,10 +127,10 @@ slice-aggregate-stamp-rows : tie.Need-slice-aggregate-stamp-rows
 slice-aggregate-stamp-rows c = let saw = c .before .before .before .before in count-front _ _ (front-within (saw .look-up .ensures .found))
 
 car-room-requires : tie.Need-car-room-requires
-car-room-requires c κs = let saw = c .before .before .before .before in omega (arith, ok (passed (stored (located (cell saw)))) .size .lengths .head)
+car-room-requires c κs = let saw = c .before .before .before .before in omega (arith, ok (passed (shape (stored (located (cell saw))))) .size .lengths .head)
 
 stamp-rows-requires : tie.Need-stamp-rows-requires
-stamp-rows-requires c κs = let saw = c .before .before .before .before .before in omega (arith, ok (passed (stored (located (cell saw)))) .size .room .cars-few)
+stamp-rows-requires c κs = let saw = c .before .before .before .before .before in omega (arith, ok (passed (shape (stored (located (cell saw))))) .size .room .cars-few)
 
 slice-reshare-prefix-move-counts : tie.Need-slice-reshare-prefix-move-counts
 slice-reshare-prefix-move-counts c = let saw = looked (c .before .before .before) in front-within (saw .look-up .ensures .found)
@@ -130,7 +139,7 @@ slice-aggregate-move-counts : tie.Need-slice-aggregate-move-counts
 slice-aggregate-move-counts c = let saw = looked (c .before .before .before .before) in count-front _ _ (front-within (saw .look-up .ensures .found))
 
 move-counts-requires : tie.Need-move-counts-requires
-move-counts-requires c κs = search needs
+move-counts-requires c κs = let saw = looked (c .before .before .before .before) in omega (arith, teamed (written (stored (located (cell saw)))) .slot-in .ensures)
 
 same-length-9 : tie.Need-same-length-9
 same-length-9 c = search needs
@@ -152,7 +161,7 @@ returns-3 c =
     let x = cell saw in
     let at = located x in
     let spot = stored at in
-    leave-kept (ok (passed spot)) (shaped spot .shape-in .ensures) (spot .spot-in .ensures) (at .locate .ensures) (x .x .given .1) (saw .look-up .ensures) (stamped .before .car-room .ensures) (written spot .write-car .ensures) (stamped .stamp-rows .ensures) (counted .move-counts .ensures)
+    leave-kept (ok (passed (shape spot))) (shape spot .shape-in .ensures) (spot .spot-in .ensures) (at .locate .ensures) (x .x .given .1) (saw .look-up .ensures) (stamped .before .car-room .ensures) (written spot .write-car .ensures) (stamped .stamp-rows .ensures) (teamed (written spot) .slot-in .ensures) (counted .move-counts .ensures)
 
 pub leave-map-spec : {M : Type 1} → statement M
 leave-map-spec =
@@ -165,6 +174,7 @@ leave-map-spec =
     same-length-4
     returns
     shape-in-requires
+    slot-in-requires
     write-car-requires
     spot-in-requires
     locate-requires

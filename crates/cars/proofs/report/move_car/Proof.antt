@@ -1,4 +1,4 @@
--- `move_car` sees the zones entered and left, sets the car's bytes in their rows, moves their counts, and stores where the car is.
+-- `move_car` sees the zones entered and left, sets the car's bytes in their rows, turns their numbers, and stores where the car is and its team.
 use native.Mathlib.Omega.{arith}
 use Rattle.order.specs.BufferLaws.{count-front}
 use Rattle.cars.specs.ReportLaws.{car-there, spot-there, see-asks, report-kept}
@@ -77,7 +77,7 @@ slice-aggregate-move-counts : tie.Need-slice-aggregate-move-counts
 slice-aggregate-move-counts c = let left = c .before .before .before .before in count-front _ _ (seen (came left) .see .ensures .came)
 
 move-counts-requires : tie.Need-move-counts-requires
-move-counts-requires c κs = search needs
+move-counts-requires c κs = let left = c .before .before .before .before in begin (roomed (seen (came left))) .pre .few
 
 slice-reshare-prefix-move-counts-2 : tie.Need-slice-reshare-prefix-move-counts-2
 slice-reshare-prefix-move-counts-2 c = let up = c .before .before .before in seen (came (gone up)) .see .ensures .gone
@@ -86,10 +86,13 @@ slice-aggregate-move-counts-2 : tie.Need-slice-aggregate-move-counts-2
 slice-aggregate-move-counts-2 c = let up = c .before .before .before .before in count-front _ _ (seen (came (gone up)) .see .ensures .gone)
 
 move-counts-requires-2 : tie.Need-move-counts-requires-2
-move-counts-requires-2 c κs = search needs
+move-counts-requires-2 c κs = let up = c .before .before .before .before in begin (roomed (seen (came (gone up)))) .pre .few
 
 write-spot-requires : tie.Need-write-spot-requires
 write-spot-requires c κs = let many = roomed (seen (came (gone (more (c .before .before .before))))) in spot-there (begin many .pre)
+
+add-write-car : tie.Need-add-write-car
+add-write-car c = let many = roomed (seen (came (gone (more (fewer (c .before .before .before)))))) in omega (arith, begin many .pre .few)
 
 write-car-requires : tie.Need-write-car-requires
 write-car-requires c κs = let many = roomed (seen (came (gone (more (fewer (c .before .before .before)))))) in car-there (begin many .pre)
@@ -144,6 +147,7 @@ move-car-spec =
     slice-aggregate-move-counts-2
     move-counts-requires-2
     write-spot-requires
+    add-write-car
     write-car-requires
     same-length
     same-length-2

@@ -17,7 +17,7 @@ enum-known-admitted-2 c = search needs
 move-car-requires : tie.Need-move-car-requires
 move-car-requires c κs =
     let at = c .before .before .before .before .before .before .before in
-    reportable _ _ _ _ _ (sym (at .admitted2 .given .1) ∙ at .before .before .admit .ensures)
+    reportable _ _ _ _ _ _ (sym (at .admitted2 .given .1) ∙ at .before .before .admit .ensures)
 
 same-length : tie.Need-same-length
 same-length c = search needs
@@ -38,7 +38,7 @@ same-length-6 : tie.Need-same-length-6
 same-length-6 c = search needs
 
 returns : tie.Need-returns
-returns c = not-admitted _ _ _ _ _ (sym (c .before .admitted .given .1) ∙ c .before .before .before .admit .ensures)
+returns c = not-admitted _ _ _ _ _ _ (sym (c .before .admitted .given .1) ∙ c .before .before .before .admit .ensures)
 
 same-length-7 : tie.Need-same-length-7
 same-length-7 c = search needs

@@ -82,7 +82,7 @@ returns c =
     let at = located done in
     let places = placed at in
     let first = start places in
-    replies-as (call-replies (first .pre) (places .places-in .ensures) refl (done .report-car .ensures) (read-back _ (places .places-in .result)) (wrote .write-reported .ensures)) (ap (λ (p : Position). some (Letter.P, reporting (first .args .car) p (blank 16) (blank 16))) (sym (at .position-of .ensures)))
+    replies-as (call-replies (first .pre) (places .places-in .ensures) refl (done .report-car .ensures) (read-back _ (places .places-in .result)) (wrote .write-reported .ensures)) (ap (λ (p : Position). some (Letter.P, reporting (first .args .car) 0 p (blank 16) (blank 16))) (sym (at .position-of .ensures)))
 
 pub report-record-spec : {M : Type 1} → statement M
 report-record-spec =

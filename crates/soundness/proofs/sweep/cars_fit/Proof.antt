@@ -1,4 +1,4 @@
--- `cars_fit`: each car passed that is placed has a position on the map.
+-- `cars_fit`: each car passed that is placed fits.
 use Prim.Native.Nat.{_-_}
 use mathlib.Core.Path.{sym, _∙_}
 use borrow.Author.Tests.{not-true, not-false}

@@ -1,11 +1,11 @@
--- `sound`: the zones fit, the cars are on the map, the entries, the starts, the rosters and the counts are right, asked in this order.
+-- `sound`: the zones fit, and so do the cars, the entries, the starts, the rosters and the tallies are right, asked in this order.
 use mathlib.Core.Bool.{true}
 use mathlib.Core.Path.{_≡_, sym, _∙_}
 use borrow.Author.Tests.{not-true, not-false}
 use lib.ListN.{length}
 use Rattle.tables.specs.Tables.{Tables, tables}
 use Rattle.soundness.specs.Tests.{every, zoneFits, carFits, entriesRight, startRight, inUse}
-use Rattle.soundness.specs.SweepLaws.{Known, zoned, parked, fitting, riding, starts-few, bytes-many, rows-there, counts-many, last-start, entries-few, unsound-zones, unsound-cars, unsound-entries, unsound-starts, unsound-rosters, sound-counts}
+use Rattle.soundness.specs.SweepLaws.{Known, zoned, parked, fitting, riding, starts-few, bytes-many, rows-there, numbers-many, last-start, entries-few, unsound-zones, unsound-cars, unsound-entries, unsound-starts, unsound-rosters, sound-tallies}
 use borrow.Author.Needs.{needs}
 use Rattle.soundness.proofs.sweep.sound.Statement.{statement}
 use Rattle.soundness.proofs.sweep.sound.Tie as tie
@@ -137,8 +137,8 @@ returns-5 c =
     let one = fit two in
     unsound-rosters (known (read one)) (zones-right one) (cars-right two) _ (last used) (lists-right three) (starts-right four) (sym (c .before .rosters-right .ensures) ∙ not-true _ (c .if5 .taken))
 
-counts-right-requires : tie.Need-counts-right-requires
-counts-right-requires c κs = let k = known (read (fit (counted (listed (started (c .before .before)))))) in (rows-there k, counts-many k)
+tallies-right-requires : tie.Need-tallies-right-requires
+tallies-right-requires c κs = let k = known (read (fit (counted (listed (started (c .before .before)))))) in (rows-there k, numbers-many k)
 
 returns-6 : tie.Need-returns-6
 returns-6 c =
@@ -148,7 +148,7 @@ returns-6 c =
     let used = listed three in
     let two = counted used in
     let one = fit two in
-    c .counts-right .ensures ∙ sound-counts (known (read one)) (zones-right one) (cars-right two) _ (last used) (lists-right three) (starts-right four) (sym (five .before .rosters-right .ensures) ∙ not-false _ (five .if5 .left))
+    c .tallies-right .ensures ∙ sound-tallies (known (read one)) (zones-right one) (cars-right two) _ (last used) (lists-right three) (starts-right four) (sym (five .before .rosters-right .ensures) ∙ not-false _ (five .if5 .left))
 
 pub sound-spec : {M : Type 1} → statement M
 sound-spec =
@@ -173,5 +173,5 @@ sound-spec =
     returns-4
     rosters-right-requires
     returns-5
-    counts-right-requires
+    tallies-right-requires
     returns-6)

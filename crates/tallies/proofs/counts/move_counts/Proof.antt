@@ -1,4 +1,4 @@
--- `move_counts` moves the count of zone after zone: what is left of the list is still to be moved.
+-- `move_counts` turns zone after zone: what is left of the list is still to be turned.
 use Prim.Native.Nat.{_-_}
 use lib.ListN.{length}
 use Rattle.tallies.specs.CountLaws.{Moving, move-begins, move-turns, move-ends}
@@ -7,35 +7,22 @@ use Rattle.tallies.proofs.counts.move_counts.Statement.{statement}
 use Rattle.tallies.proofs.counts.move_counts.Tie as tie
 
 abbrev Inv-loop : tie.InvT-loop
-Inv-loop tallies₀ zones v i₀ tallies i = Moving tallies₀ zones v tallies i
+Inv-loop tallies₀ zones g v i₀ tallies i = Moving tallies₀ zones g v tallies i
 
 abbrev μ-loop : tie.MeasureT-loop
-μ-loop tallies₀ zones v i₀ tallies i = length zones - i
-
--- ---- stations: from each the one before it
-
-abbrev turn : tie.After-count-at Inv-loop μ-loop → tie.In-loop Inv-loop μ-loop
-turn c = c .before .before .before
-
-abbrev placed : tie.After-slice-known2 Inv-loop μ-loop → tie.After-count-at Inv-loop μ-loop
-placed c = c .before .before .before
-
--- ---- needs
+μ-loop tallies₀ zones g v i₀ tallies i = length zones - i
 
 loop-holds : tie.Need-loop-holds Inv-loop μ-loop
-loop-holds c = move-begins _ _ _
+loop-holds c = move-begins _ _ _ _
 
-mul-count-at : tie.Need-mul-count-at Inv-loop μ-loop
-mul-count-at c = search needs
+mul-turn-zone : tie.Need-mul-turn-zone Inv-loop μ-loop
+mul-turn-zone c = search needs
 
-shared-slice-read-count-at : tie.Need-shared-slice-read-count-at Inv-loop μ-loop
-shared-slice-read-count-at c = search needs
+shared-slice-read-turn-zone : tie.Need-shared-slice-read-turn-zone Inv-loop μ-loop
+shared-slice-read-turn-zone c = search needs
 
-count-at-requires : tie.Need-count-at-requires Inv-loop μ-loop
-count-at-requires c κs = search needs
-
-move-at-requires : tie.Need-move-at-requires Inv-loop μ-loop
-move-at-requires c κs = search needs
+turn-zone-requires : tie.Need-turn-zone-requires Inv-loop μ-loop
+turn-zone-requires c κs = search needs
 
 add-i : tie.Need-add-i Inv-loop μ-loop
 add-i c = search needs
@@ -44,13 +31,13 @@ loop-less : tie.Need-loop-less Inv-loop μ-loop
 loop-less c = search needs
 
 loop-again : tie.Need-loop-again Inv-loop μ-loop
-loop-again c = let at = placed c in move-turns _ _ _ (turn at .before .loop .inv) (turn at .loop-test .taken) (at .count-at .ensures) (c .before .before .move-at .ensures)
+loop-again c = let turned = c .before .before in let turn = turned .before .before .before in move-turns _ _ _ _ (turn .before .loop .inv) (turn .loop-test .taken) (turned .turn-zone .ensures)
 
 same-length : tie.Need-same-length Inv-loop μ-loop
 same-length c = c .before .loop .inv .long
 
 returns : tie.Need-returns Inv-loop μ-loop
-returns c = move-ends _ _ _ (c .before .loop .inv) (c .loop-test .left)
+returns c = move-ends _ _ _ _ (c .before .loop .inv) (c .loop-test .left)
 
 pub move-counts-spec : {M : Type 1} → statement M
 move-counts-spec =
@@ -59,10 +46,9 @@ move-counts-spec =
     Inv-loop
     μ-loop
     loop-holds
-    mul-count-at
-    shared-slice-read-count-at
-    count-at-requires
-    move-at-requires
+    mul-turn-zone
+    shared-slice-read-turn-zone
+    turn-zone-requires
     add-i
     loop-less
     loop-again

@@ -1,13 +1,12 @@
 -- `add_zone` counts the cut, and writes the zone's record, its keys, its row and its count, past the refusals.
 use Prim.Native.Nat.{_-_, _<_}
-use mathlib.Core.Path.{_≡_, refl, sym, _∙_}
+use mathlib.Core.Path.{refl, sym, _∙_}
 use native.Mathlib.Omega.{arith}
 use lib.ListN.{length, getD}
 use Rattle.tables.specs.Tables.{Tables, tables}
-use Rattle.tables.specs.TallyLaws.{count-in}
 use Rattle.model.specs.Model.{meaning}
 use Rattle.promises.specs.PromiseLaws.{keeps-refused}
-use Rattle.zones.specs.AddLaws.{New, new-zone, record-there, cut-room, keys-there, row-there, inside-few, add-full, add-kept}
+use Rattle.zones.specs.AddLaws.{New, new-zone, record-there, cut-room, keys-there, row-there, cars-there, add-full, add-kept}
 use borrow.Author.Needs.{needs}
 use Rattle.zones.proofs.add.add_zone.Statement.{statement}
 use Rattle.zones.proofs.add.add_zone.Tie as tie
@@ -41,8 +40,8 @@ zoned c = c .before .before .before .before .before
 abbrev keyed : tie.After-fill-row → tie.After-add-keys
 keyed c = c .before .before .before .before .before .before
 
-abbrev rowed : tie.After-write-count → tie.After-fill-row
-rowed c = c .before .before .before .before
+abbrev rowed : tie.After-fill-tally → tie.After-fill-row
+rowed c = c .before .before .before .before .before
 
 abbrev whole : tie.Start → Tables
 whole c = tables (c .args .head .now) (c .args .zones .now) (c .args .cars .now) (c .args .spots .now) (c .args .starts .now) (c .args .entries .now) (c .args .rosters .now) (c .args .tallies .now)
@@ -138,15 +137,12 @@ fill-row-requires c κs =
     let at = shaped (read (counted (roomed park))) in
     row-there (new (passed at)) (at .shape-in .ensures) (park .car-room .ensures)
 
-cast-write-count : tie.Need-cast-write-count
-cast-write-count c =
-    let filled = c .before .before .before in
+fill-tally-requires : tie.Need-fill-tally-requires
+fill-tally-requires c κs =
+    let filled = c .before .before .before .before in
     let park = parked (zoned (keyed filled)) in
     let at = shaped (read (counted (roomed park))) in
-    omega (arith, inside-few (new (passed at)) (at .shape-in .ensures) (park .car-room .ensures) (filled .fill-row .ensures))
-
-write-count-requires : tie.Need-write-count-requires
-write-count-requires c κs = let park = parked (zoned (keyed (c .before .before .before))) in let k = new (passed (shaped (read (counted (roomed park))))) in count-in _ (k .size) _ (k .zone)
+    cars-there (new (passed at)) (at .shape-in .ensures) (park .car-room .ensures) (filled .fill-row .ensures)
 
 same-length-11 : tie.Need-same-length-11
 same-length-11 c = search needs
@@ -173,7 +169,7 @@ returns-3 c =
     let room = roomed park in
     let cut = counted room in
     let at = shaped (read cut) in
-    add-kept (new (passed at)) (at .shape-in .ensures) refl (cut .cut-count .ensures .is) (room .if2 .left) (park .car-room .ensures) (zone .write-zone .ensures) (keys .add-keys .ensures) (filled .fill-row .ensures) (tallied .write-count .ensures)
+    add-kept (new (passed at)) (at .shape-in .ensures) refl (cut .cut-count .ensures .is) (room .if2 .left) (park .car-room .ensures) (zone .write-zone .ensures) (keys .add-keys .ensures) (filled .fill-row .ensures) (tallied .fill-tally .ensures)
 
 pub add-zone-spec : {M : Type 1} → statement M
 add-zone-spec =
@@ -203,8 +199,7 @@ add-zone-spec =
     write-zone-requires
     add-keys-requires
     fill-row-requires
-    cast-write-count
-    write-count-requires
+    fill-tally-requires
     same-length-11
     same-length-12
     same-length-13

@@ -1,10 +1,10 @@
 -- `remove_zone` clears the zone's record, its keys, its row and its count, past the refusals.
-use mathlib.Core.Path.{_≡_, refl, sym, _∙_}
+use mathlib.Core.Path.{refl, sym, _∙_}
 use native.Mathlib.Omega.{arith}
 use Rattle.tables.specs.Tables.{Tables, tables}
 use Rattle.model.specs.Model.{meaning}
 use Rattle.promises.specs.PromiseLaws.{keeps-refused}
-use Rattle.tables.specs.TallyLaws.{count-in}
+use Rattle.tables.specs.TallyLaws.{tally-in}
 use Rattle.promises.specs.StandingLaws.{There, zone-there}
 use Rattle.zones.specs.RemoveLaws.{record-there, row-there, remove-kept}
 use borrow.Author.Needs.{needs}
@@ -28,7 +28,7 @@ zoned c = c .before .before .before .before .before
 abbrev dropped : tie.After-clear-row → tie.After-drop-keys
 dropped c = c .before .before .before .before .before .before
 
-abbrev rowed : tie.After-write-count → tie.After-clear-row
+abbrev rowed : tie.After-clear-tally → tie.After-clear-row
 rowed c = c .before .before .before .before
 
 abbrev whole : tie.Start → Tables
@@ -75,8 +75,8 @@ drop-keys-requires c κs = search needs
 clear-row-requires : tie.Need-clear-row-requires
 clear-row-requires c κs = let park = parked (zoned (c .before .before .before .before .before)) in rw (park .car-room .ensures) (row-there (there (passed park)))
 
-write-count-requires : tie.Need-write-count-requires
-write-count-requires c κs = let park = parked (zoned (dropped (c .before .before .before))) in let k = there (passed park) in omega (arith, count-in _ (k .size) _ (k .zone))
+clear-tally-requires : tie.Need-clear-tally-requires
+clear-tally-requires c κs = let park = parked (zoned (dropped (c .before .before .before))) in let k = there (passed park) in omega (arith, tally-in _ (k .size) _ (k .zone))
 
 same-length-6 : tie.Need-same-length-6
 same-length-6 c = search needs
@@ -100,7 +100,7 @@ returns-2 c =
     let keys = dropped cleared in
     let zone = zoned keys in
     let park = parked zone in
-    remove-kept (there (passed park)) (park .car-room .ensures) (zone .clear-zone .ensures) (keys .drop-keys .ensures) (cleared .clear-row .ensures) (counted .write-count .ensures)
+    remove-kept (there (passed park)) (park .car-room .ensures) (zone .clear-zone .ensures) (keys .drop-keys .ensures) (cleared .clear-row .ensures) (counted .clear-tally .ensures)
 
 pub remove-zone-spec : {M : Type 1} → statement M
 remove-zone-spec =
@@ -117,7 +117,7 @@ remove-zone-spec =
     clear-zone-requires
     drop-keys-requires
     clear-row-requires
-    write-count-requires
+    clear-tally-requires
     same-length-6
     same-length-7
     same-length-8
