@@ -93,9 +93,6 @@ module _ (t : Tables) (c z : ℕ) where
   unfolding rosterHas
   leave-own = ap (λ (m : Town). holdsCar m z c) (town-car-off t c) ∙ rw (eq-eqb c c refl)
 
-  pub leave-drives : (g d : ℕ) → (d ≡ c → ⊥) → drivesFor (townOf (step (carOff c) t)) g d ≡ drivesFor (townOf t) g d
-  leave-drives g d f = ap (λ (m : Town). drivesFor m g d) (town-car-off t c) ∙ rw (ne-eqb d c f)
-
 module _ (t : Tables) (c : ℕ) (a : Car) (z : ℕ) (sound : Sound t) (there : c < carRoom t) where
   pub report-other : (d : ℕ) → (d ≡ c → ⊥) → rosterHas (step (carAt c a) t) z d ≡ rosterHas t z d
   unfolding rosterHas
@@ -105,13 +102,6 @@ module _ (t : Tables) (c : ℕ) (a : Car) (z : ℕ) (sound : Sound t) (there : c
   pub report-own : rosterHas (step (carAt c a) t) z c ≡ zoneHolds t z (columnOf (shapeOf t) (a .position)) (rowOf (shapeOf t) (a .position))
   unfolding rosterHas zoneHolds
   report-own = ap (λ (m : Town). holdsCar m z c) (town-car-at t (size-of sound) c there a) ∙ rw (eq-eqb c c refl)
-
-  -- and drives for the team that it reports
-  pub drives-other : (g d : ℕ) → (d ≡ c → ⊥) → drivesFor (townOf (step (carAt c a) t)) g d ≡ drivesFor (townOf t) g d
-  drives-other g d f = ap (λ (m : Town). drivesFor m g d) (town-car-at t (size-of sound) c there a) ∙ rw (ne-eqb d c f)
-
-  pub drives-own : (g : ℕ) → drivesFor (townOf (step (carAt c a) t)) g c ≡ eqb (a .team) g
-  drives-own g = ap (λ (m : Town). drivesFor m g c) (town-car-at t (size-of sound) c there a) ∙ rw (eq-eqb c c refl)
 
   -- a zone that has the car just if it holds the new cell keeps its roster
   pub report-same : rosterHas t z c ≡ zoneHolds t z (columnOf (shapeOf t) (a .position)) (rowOf (shapeOf t) (a .position)) → (d : ℕ) → rosterHas (step (carAt c a) t) z d ≡ rosterHas t z d
@@ -127,3 +117,17 @@ module _ (t : Tables) (c : ℕ) (a : Car) (z : ℕ) (sound : Sound t) (there : c
   -- byte for byte
   pub report-bytes : onTown (shapeOf t) (a .position) ≡ true → leb (a .team) lastTeam ≡ true → z < zoneRoom t → rosterHas t z c ≡ zoneHolds t z (columnOf (shapeOf t) (a .position)) (rowOf (shapeOf t) (a .position)) → (d : ℕ) → d < carRoom t → getD (step (carAt c a) t .derived .rosters) (z * carRoom t + d) 0 ≡ getD (t .derived .rosters) (z * carRoom t + d) 0
   report-bytes o g h e d l = roster-byte (step (carAt c a) t) (report-sound t sound c a there o g) z d h l ∙ ap bit (report-same e d) ∙ sym (roster-byte t sound z d h l)
+
+-- ---- for which team each car drives then
+
+module _ (t : Tables) (c : ℕ) where
+  pub leave-drives : (g d : ℕ) → (d ≡ c → ⊥) → drivesFor (townOf (step (carOff c) t)) g d ≡ drivesFor (townOf t) g d
+  leave-drives g d f = ap (λ (m : Town). drivesFor m g d) (town-car-off t c) ∙ rw (ne-eqb d c f)
+
+  module _ (a : Car) (sound : Sound t) (there : c < carRoom t) where
+    pub drives-other : (g d : ℕ) → (d ≡ c → ⊥) → drivesFor (townOf (step (carAt c a) t)) g d ≡ drivesFor (townOf t) g d
+    drives-other g d f = ap (λ (m : Town). drivesFor m g d) (town-car-at t (size-of sound) c there a) ∙ rw (ne-eqb d c f)
+
+    -- the car itself for the team that it reports
+    pub drives-own : (g : ℕ) → drivesFor (townOf (step (carAt c a) t)) g c ≡ eqb (a .team) g
+    drives-own g = ap (λ (m : Town). drivesFor m g c) (town-car-at t (size-of sound) c there a) ∙ rw (eq-eqb c c refl)

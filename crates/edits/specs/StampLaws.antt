@@ -166,8 +166,8 @@ module _ (t : Tables) (sound : Sound t) (c : ℕ) (there : c < carRoom t) where
       let e′ : came ≡ gained t u c = e ∙ keep-ext _ (λ (z : ℕ). rosterHas u z c && not (rosterHas t z c)) (upto (zoneRoom t)) (λ z m. ap (λ (b : Bool). b && not (rosterHas t z c)) (sym (own z))) in
       let f′ : gone ≡ gained u t c = f ∙ keep-ext _ (λ (z : ℕ). rosterHas t z c && not (rosterHas u z c)) (upto (zoneRoom t)) (λ z m. ap (λ (b : Bool). rosterHas t z c && not b) (sym (own z))) in
       let same : (z d : ℕ) → (d ≡ c → ⊥) → rosterHas u z d ≡ rosterHas t z d = λ z d o. sym (has-fresh u z d) ∙ report-other t c a z sound there d o in
-      let drives : (h d : ℕ) → (d ≡ c → ⊥) → drivesFor (townOf u) h d ≡ drivesFor (townOf t) h d = λ h d o. sym (drives-fresh u h d) ∙ drives-other t c a 0 sound there h d o in
-      let new : (z h : ℕ) → rosterHas u z c ≡ true → drivesFor (townOf u) h c ≡ eqb g h = λ z h o. sym (drives-fresh u h c) ∙ drives-own t c a 0 sound there h in
+      let drives : (h d : ℕ) → (d ≡ c → ⊥) → drivesFor (townOf u) h d ≡ drivesFor (townOf t) h d = λ h d o. sym (drives-fresh u h d) ∙ drives-other t c a sound there h d o in
+      let new : (z h : ℕ) → rosterHas u z c ≡ true → drivesFor (townOf u) h c ≡ eqb g h = λ z h o. sym (drives-fresh u h c) ∙ drives-own t c a sound there h in
       let bytes = ap₂ (λ (a b : List ℕ). stamped (stamped (t .derived .rosters) a (carRoom t) c 1) b (carRoom t) c 0) e′ f′ ∙ ap (λ (b : List ℕ). stamped (stamped b (gained t u c) (carRoom t) c 1) (gained u t c) (carRoom t) c 0) (rosters-fresh sound) ∙ rosters-stamped t cars spots (size-of sound) c there same in
       let counts = ap₂ (λ (a b : List ℕ). moved (moved (t .derived .tallies) a g 1) b g 4294967295) e′ f′ ∙ ap (λ (b : List ℕ). moved (moved b (gained t u c) g 1) (gained u t c) g 4294967295) (tallies-fresh sound) ∙ tallies-moved t cars spots (size-of sound) c g there (teamed-few (carIn t c) g fits) same drives (λ z h. team-own t c g fits z h) new in
       let keeps = report-keeps t sound c a in
@@ -185,7 +185,7 @@ module _ (t : Tables) (sound : Sound t) (c : ℕ) (there : c < carRoom t) where
       let none : gained t u c ≡ [] = keep-none (λ (z : ℕ). rosterHas u z c && not (rosterHas t z c)) (upto (zoneRoom t)) (λ z m. ap (λ (b : Bool). b && not (rosterHas t z c)) (own z)) in
       let f′ : gone ≡ gained u t c = f ∙ keep-ext (λ (z : ℕ). rosterHas t z c) (λ (z : ℕ). rosterHas t z c && not (rosterHas u z c)) (upto (zoneRoom t)) (λ z m. sym (ap (λ (b : Bool). rosterHas t z c && not b) (own z) ∙ and-true (rosterHas t z c))) in
       let same : (z d : ℕ) → (d ≡ c → ⊥) → rosterHas u z d ≡ rosterHas t z d = λ z d o. sym (has-fresh u z d) ∙ leave-other t c z d o in
-      let drives : (h d : ℕ) → (d ≡ c → ⊥) → drivesFor (townOf u) h d ≡ drivesFor (townOf t) h d = λ h d o. sym (drives-fresh u h d) ∙ leave-drives t c 0 h d o in
+      let drives : (h d : ℕ) → (d ≡ c → ⊥) → drivesFor (townOf u) h d ≡ drivesFor (townOf t) h d = λ h d o. sym (drives-fresh u h d) ∙ leave-drives t c h d o in
       let old : (z h : ℕ) → rosterHas t z c ≡ true → drivesFor (townOf t) h c ≡ eqb g h = λ z h o. rw (slot-team t c on (sound .teams c on), car-in t c on) in
       let new : (z h : ℕ) → rosterHas u z c ≡ true → drivesFor (townOf u) h c ≡ eqb g h = λ z h o. absurd (true-not-false (rosterHas u z c) o (own z)) in
       let bytes = ap₂ (λ (a b : List ℕ). stamped a b (carRoom t) c 0) (rosters-fresh sound) f′ ∙ ap (λ (a : List ℕ). stamped (stamped (rostersOf t) a (carRoom t) c 1) (gained u t c) (carRoom t) c 0) (sym none) ∙ rosters-stamped t cars (t .records .spots) (size-of sound) c there same in
