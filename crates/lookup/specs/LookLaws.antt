@@ -91,9 +91,9 @@ pub record Crossing (s : Shape) (zones starts entries : List ℕ) (x y x′ y′
   pub left : Front l l′ gone (lookedInto (outside zones x′ y′) s x y starts entries (length l) up)
 
 module _ {s : Shape} {x y x′ y′ : ℕ} (map : OnMap s x y) (map′ : OnMap s x′ y′) where
-  pub cross-begins : (zones starts entries e l : List ℕ) {n n′ d p p′ : ℕ} → Below (number s (s .k) x y) (squaresOn s (s .k)) n → Below (number s (s .k) x′ y′) (squaresOn s (s .k)) n′ → StepsApart (s .k) n n′ d → Below (place s (s .k) n) (squares s) p → Below (place s (s .k) n′) (squares s) p′ → Crossing s zones starts entries x y x′ y′ e e l l d p p′ 0 0 0
+  pub cross-begins : (zones starts entries e l : List ℕ) {n n′ d p p′ : ℕ} → Below (number s (s .k) x y) (squaresOn s (s .k)) n → Below (number s (s .k) x′ y′) (squaresOn s (s .k)) n′ → StepsApart (s .k) x y x′ y′ d → Below (place s (s .k) n) (squares s) p → Below (place s (s .k) n′) (squares s) p′ → Crossing s zones starts entries x y x′ y′ e e l l d p p′ 0 0 0
   unfolding lookedInto
-  cross-begins zones starts entries e l h h′ t w w′ = record { apart = steps-apart (rw (h .is, h′ .is) at t); few = omega arith; old = up-first map h w; new = up-first map′ h′ w′; entered = front-none e; left = front-none l }
+  cross-begins zones starts entries e l h h′ t w w′ = record { apart = steps-apart (map .column) (map′ .column) t; few = omega arith; old = up-first map h w; new = up-first map′ h′ w′; entered = front-none e; left = front-none l }
 
   module _ {zones starts entries e e′ l l′ : List ℕ} {d p p′ up came gone : ℕ} (k : Crossing s zones starts entries x y x′ y′ e e′ l l′ d p p′ up came gone) where
     pub cross-few : up ≤ 6

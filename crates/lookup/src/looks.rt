@@ -60,11 +60,10 @@ pub fn cross(
     ensures { λ r. ⌜ Crosses s (now (zones .entry)) (now (starts .entry)) (now (entries .entry)) x y column row (now (entered .entry)) (now (entered .exit)) (now (left .entry)) (now (left .exit)) r ⌝ }
 {
     let k = s.k;
-    let from = s.number(k, x, y);
-    let to = s.number(k, column, row);
-    let differing = squares::steps_apart(k, from, to);
-    let mut old = tables::place_of(s, k, from);
-    let mut new = tables::place_of(s, k, to);
+    let units = s.numbers(k, x, y, column, row);
+    let differing = squares::steps_apart(k, x, y, column, row);
+    let mut old = tables::place_of(s, k, units.first);
+    let mut new = tables::place_of(s, k, units.second);
     let mut up = 0u32;
     let mut came = 0usize;
     let mut gone = 0usize;

@@ -1,22 +1,24 @@
 -- Laws of the levels on which two cells lie in different squares: they are the lowest ones, from the unit cell up.
-use Prim.Native.Nat.{ℕ, suc, _+_, _*_, _-_, _/_, _^_, _≤_, _<_}
+use Prim.Native.Nat.{ℕ, suc, _+_, _-_, _/_, _^_, _≤_, _<_}
 use mathlib.Core.Path.{_≡_, refl, ap, sym, _∙_}
+use mathlib.Core.Logic.{⊎-elim}
 use mathlib.Core.Bool.{true, false, not}
 use mathlib.Core.List.{List, _++_}
 use native.Mathlib.Omega.{arith}
-use native.Mathlib.Nat.{pow-suc, one-mul, div-eq-of-lt, le-div-iff-mul-le, lt-of-lt-of-le}
-use lib.Bits.{bitXor, xor-add-and, and-le-l, and-le-r, xor-shr, xor-self, xor-lt}
+use native.Mathlib.Nat.{pow-suc, one-mul, div-eq-of-lt, le-div-iff-mul-le}
+use lib.Bits.{bitOr, bitXor, or-lt, or-add-and, xor-add-and, and-le-l, and-le-r, xor-shr, xor-self, xor-lt}
 use lib.Count.{leadingZeros, leading-length}
 use lib.ListN.{length}
 use lib.Pow.{pow-pos, pow-mono}
 use borrow.Author.Tests.{eq-eqb, ne-eqb}
 use Rattle.order.specs.Order.{span, upto, keep}
 use Rattle.order.specs.KeepLaws.{span-add, length-span, span→, keep-append, keep-none, keep-all}
+use Rattle.order.specs.TestLaws.{lt-or-le}
 use Rattle.squares.specs.declared.shape.Shape.{Shape}
+use Rattle.squares.specs.Shape.{width}
 use Rattle.squares.specs.Squares.{number, differAt, differ}
 use Rattle.squares.specs.Leaves.{StepsApart}
-use Rattle.squares.specs.PowerLaws.{two-two}
-use Rattle.squares.specs.SquareLaws.{number-above}
+use Rattle.squares.specs.SquareLaws.{same-number}
 
 -- the d lowest levels differ, and no other
 pub record Apart (s : Shape) (x y x′ y′ d : ℕ) : Type 0 where
@@ -38,19 +40,16 @@ differ-count {s} {x} {y} {x′} {y′} {d} h =
     let all = keep-all p (span (0 + low) d) (λ i m. h .below i (omega (arith, span→ (0 + low) d i m)) (omega (arith, span→ (0 + low) d i m))) in
     ap length (ap (λ (n : ℕ). keep p (upto n)) e ∙ ap (keep p) (span-add 0 low d) ∙ keep-append p (upto low) (span (0 + low) d) ∙ ap (λ (l : List ℕ). l ++ keep p (span (0 + low) d)) none ∙ all) ∙ length-span (0 + low) d
 
--- ---- by the numbers of the unit cells
+-- ---- by the columns and rows
 
-pub steps-apart : {s : Shape} {x y x′ y′ d : ℕ} → StepsApart (s .k) (number s (s .k) x y) (number s (s .k) x′ y′) d → Apart s x y x′ y′ d
-steps-apart {s} {x} {y} {x′} {y′} {d} h = record {
+pub steps-apart : {s : Shape} {x y x′ y′ d : ℕ} → x < width s → x′ < width s → StepsApart (s .k) x y x′ y′ d → Apart s x y x′ y′ d
+steps-apart {s} {x} {y} {x′} {y′} {d} w w′ h = record {
   few = h .few;
-  below = λ (i : ℕ) (l : i ≤ s .k) (g : s .k - i < d). ap not (ne-eqb (number s i x y) (number s i x′ y′) (λ q. h .apart (s .k - i) g (up i l x y ∙ q ∙ sym (up i l x′ y′))));
-  above = λ (i : ℕ) (l : i ≤ s .k) (g : d ≤ s .k - i). ap not (eq-eqb (number s i x y) (number s i x′ y′) (sym (up i l x y) ∙ h .together (s .k - i) (omega arith) g ∙ up i l x′ y′));
+  below = λ (i : ℕ) (l : i ≤ s .k) (g : s .k - i < d). ap not (ne-eqb (number s i x y) (number s i x′ y′) (λ q. let both = same-number s i x y x′ y′ l w w′ .0 q in h .apart (s .k - i) g (both .0) (both .1)));
+  above = λ (i : ℕ) (l : i ≤ s .k) (g : d ≤ s .k - i). ap not (eq-eqb (number s i x y) (number s i x′ y′) (same-number s i x y x′ y′ l w w′ .1 (h .together (s .k - i) (omega arith) g)));
 }
-  where
-    up : (i : ℕ) → i ≤ s .k → (x y : ℕ) → number s (s .k) x y / 4 ^ (s .k - i) ≡ number s i x y
-    up i l x y = let e : s .k - i + i ≡ s .k = omega arith in rw e at (number-above s (s .k - i) i x y (omega arith))
 
--- ---- by the bits of those numbers
+-- ---- by the bits of the coordinates
 
 -- no bit differs
 xor-none : (a b : ℕ) → bitXor a b ≡ 0 → a ≡ b
@@ -66,24 +65,34 @@ xor-high a b j h e =
     let some : 1 ≤ bitXor a b / 2 ^ j = le-div-iff-mul-le (pow-pos j) .1 (omega (arith, one-mul (2 ^ j))) in
     omega arith
 
--- half as many as the bits up to the highest one that differs, rounded up
-abbrev pub halfLength : ℕ → ℕ → ℕ
-halfLength a b = (33 - leadingZeros 32 (bitXor a b)) / 2
+xor-small : (a b j : ℕ) → a / 2 ^ j ≡ b / 2 ^ j → bitXor a b < 2 ^ j
+xor-small a b j e = ⊎-elim (λ (l : bitXor a b < 2 ^ j). l) (λ (l : 2 ^ j ≤ bitXor a b). absurd (xor-high a b j l e)) (lt-or-le (bitXor a b) (2 ^ j))
 
-module _ {a b : ℕ} (h : a < 2 ^ 32) (h′ : b < 2 ^ 32) where
-  below : (j : ℕ) → j < halfLength a b → a / 4 ^ j ≡ b / 4 ^ j → ⊥
-  below j g =
-      let t = leading-length 32 (bitXor a b) (xor-lt 32 a b h h′) in
-      let p = pow-mono {i = suc (2 * j)} {j = t .0} (omega (arith, t .1)) in
-      rw (← two-two j) (xor-high a b (2 * j) (omega (arith, t .3, p, pow-suc 2 (2 * j))))
+-- the bits up to the highest one in which the columns or the rows differ
+abbrev pub lengthApart : ℕ → ℕ → ℕ → ℕ → ℕ
+lengthApart x y x′ y′ = 32 - leadingZeros 32 (bitOr (bitXor x x′) (bitXor y y′))
 
-  above : (j : ℕ) → halfLength a b ≤ j → a / 4 ^ j ≡ b / 4 ^ j
+module _ {x y x′ y′ : ℕ} (hx : x < 2 ^ 32) (hy : y < 2 ^ 32) (hx′ : x′ < 2 ^ 32) (hy′ : y′ < 2 ^ 32) where
+  whole : bitOr (bitXor x x′) (bitXor y y′) < 2 ^ 32
+  whole = or-lt 32 (bitXor x x′) (bitXor y y′) (xor-lt 32 x x′ hx hx′) (xor-lt 32 y y′ hy hy′)
+
+  below : (j : ℕ) → j < lengthApart x y x′ y′ → x / 2 ^ j ≡ x′ / 2 ^ j → y / 2 ^ j ≡ y′ / 2 ^ j → ⊥
+  below j g e e′ =
+      let t = leading-length 32 (bitOr (bitXor x x′) (bitXor y y′)) whole in
+      let p = pow-mono {i = suc j} {j = t .0} (omega (arith, t .1)) in
+      omega (arith, t .3, p, pow-suc 2 j, or-lt j (bitXor x x′) (bitXor y y′) (xor-small x x′ j e) (xor-small y y′ j e′))
+
+  above : (j : ℕ) → lengthApart x y x′ y′ ≤ j → (x / 2 ^ j ≡ x′ / 2 ^ j) × (y / 2 ^ j ≡ y′ / 2 ^ j)
   above j g =
-      let t = leading-length 32 (bitXor a b) (xor-lt 32 a b h h′) in
-      rw (← two-two j) (xor-low a b (2 * j) (lt-of-lt-of-le (t .2) (pow-mono (omega (arith, t .1)))))
+      let t = leading-length 32 (bitOr (bitXor x x′) (bitXor y y′)) whole in
+      let p = pow-mono {i = t .0} {j = j} (omega (arith, t .1)) in
+      let sum = or-add-and (bitXor x x′) (bitXor y y′) in (
+        xor-low x x′ j (omega (arith, t .2, p, sum, and-le-r (bitXor x x′) (bitXor y y′))),
+        xor-low y y′ j (omega (arith, t .2, p, sum, and-le-l (bitXor x x′) (bitXor y y′))),
+      )
 
-  pub steps-some : {k : ℕ} → halfLength a b ≤ k → StepsApart k a b (halfLength a b)
+  pub steps-some : {k : ℕ} → lengthApart x y x′ y′ ≤ k → StepsApart k x y x′ y′ (lengthApart x y x′ y′)
   steps-some l = record { few = omega arith; apart = λ j g. below j g; together = λ j m g. above j g }
 
-  pub steps-all : {k : ℕ} → k < halfLength a b → StepsApart k a b (k + 1)
+  pub steps-all : {k : ℕ} → k < lengthApart x y x′ y′ → StepsApart k x y x′ y′ (k + 1)
   steps-all {k} l = record { few = omega arith; apart = λ (j : ℕ) (g : j < k + 1). below j (omega arith); together = λ (j : ℕ) (m : j ≤ k) (g : k + 1 ≤ j). absurd (omega arith) }

@@ -32,11 +32,11 @@ pub record OnMap (s : Shape) (x y : ℕ) : Type 0 where
   pub column : x < width s
   pub row : y < height s
 
--- of the squares around the unit cells a and b, j steps up, the first d differ and the others, as far as k steps up, do not
-pub record StepsApart (k a b d : ℕ) : Type 0 where
+-- of the squares around the cells (x, y) and (x′, y′), j steps up, the first d differ and the others, as far as k steps up, do not
+pub record StepsApart (k x y x′ y′ d : ℕ) : Type 0 where
   pub few : d ≤ k + 1
-  pub apart : (j : ℕ) → j < d → a / 4 ^ j ≡ b / 4 ^ j → ⊥
-  pub together : (j : ℕ) → j ≤ k → d ≤ j → a / 4 ^ j ≡ b / 4 ^ j
+  pub apart : (j : ℕ) → j < d → x / 2 ^ j ≡ x′ / 2 ^ j → y / 2 ^ j ≡ y′ / 2 ^ j → ⊥
+  pub together : (j : ℕ) → j ≤ k → d ≤ j → (x / 2 ^ j ≡ x′ / 2 ^ j) × (y / 2 ^ j ≡ y′ / 2 ^ j)
 
 -- sums of a rectangle's and a square's coordinates are small
 pub record Near (r : Rect) (x y d : ℕ) : Type 0 where

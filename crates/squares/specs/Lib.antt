@@ -5,6 +5,7 @@ pub mod Refusals
 pub mod Bounds
 pub mod Made
 pub mod Leaves
+pub mod Spread
 pub mod RefusalLaws
 pub mod PowerLaws
 pub mod ShapeLaws

@@ -21,6 +21,7 @@ use Rattle.squares.specs.Bounds.{Allowed, Fits as InTown}
 use Rattle.squares.specs.Squares.{sideOn, squaresOn, squares, isCorner, block, number, interleave}
 use Rattle.squares.specs.Leaves.{Positive, Below, Bits, OnLevel}
 use Rattle.squares.specs.PowerLaws.{two-two, four-pos, four-small}
+use Rattle.squares.specs.SquareLaws.{bits-interleaved}
 
 pub allowed→ : (s : Shape) → allowed s ≡ true → Allowed s
 allowed→ s e =
@@ -164,16 +165,24 @@ module _ {s : Shape} {i d e : ℕ} (l : OnLevel s i) (p : Positive (side s) 32 d
   tops x y = record { few = le-trans (l .level) (l .shape .levels); across = top-below x; up = top-below y }
 
 -- what `number` works out
-module _ (s : Shape) (h : Allowed s) (i x y d e many b local : ℕ) (low : i ≤ s .k) (p : Positive (side s) 32 d) (q : Positive (sideOn s i) 32 e) (f : Positive (4 ^ i) 4096 many) (g : Below (block s x y) (s .P * s .Q) b) (l : Below (interleave i (x % d / e) (y % d / e)) (4 ^ i) local) where
+module _ (s : Shape) (i x y d e many b local : ℕ) (on : OnLevel s i) (p : Positive (side s) 32 d) (q : Positive (sideOn s i) 32 e) (f : Positive (4 ^ i) 4096 many) (g : Below (block s x y) (s .P * s .Q) b) (l : Below (interleave 5 (x % d / e) (y % d / e)) 1024 local) where
+  within : Below (interleave i (x % d / e) (y % d / e)) (4 ^ i) local
+  within = bits-interleaved (tops on p q x y) l
+
   number-top : many * b + local < squaresOn s i
-  number-top = rw (f .is) (omega (arith, digits-lt (g .below) (l .below), mul-comm (4 ^ i) b))
+  number-top = rw (f .is) (omega (arith, digits-lt (g .below) (within .below), mul-comm (4 ^ i) b))
 
   pub number-is : Below (number s i x y) (squaresOn s i) (many * b + local)
   unfolding number
-  number-is = record { is = rw (f .is, g .is, l .is, p .is, q .is); below = number-top }
+  number-is = record { is = rw (f .is, g .is, within .is, p .is, q .is); below = number-top }
 
   pub number-small : many * b + local < 65536
-  number-small = omega (arith, number-top, squares-small s h i low)
+  number-small = omega (arith, number-top, squares-small s (on .shape) i (on .level))
+
+-- on level 0 it is the block
+pub number-none : (s : Shape) (x y : ℕ) {i r : ℕ} → i ≡ 0 → Below (block s x y) (s .P * s .Q) r → Below (number s i x y) (squaresOn s i) r
+unfolding number interleave
+number-none s x y e h = rw e (record { is = omega (arith, h .is); below = omega (arith, h .below, mul-one (s .P * s .Q)) })
 
 -- what `square` works out: the sums and products fit
 pub across-fits : (a t : ℕ) → a ≤ 65536 → t ≤ 32 → Fits w32 (a * t)

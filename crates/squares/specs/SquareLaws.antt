@@ -2,15 +2,24 @@
 use Prim.Native.Nat.{ℕ, zero, suc, _+_, _-_, _*_, _/_, _%_, _^_, _<_, _≤_}
 use mathlib.Core.Path.{_≡_, refl, ap, sym, _∙_}
 use mathlib.Core.Logic.{_↔_}
+use mathlib.Core.Bool.{true}
+use mathlib.Core.List.{List, [], _∷_}
 use native.Mathlib.Omega.{arith}
 use native.Mathlib.Numerals.{add-one}
-use native.Mathlib.Nat.{pow-succ', div-one, div-div-eq-div-mul, div-lt-iff-lt-mul, div-add-mod', div-mul-le-self, lt-div-mul-add, mod-lt, mod-one, mul-comm, mul-assoc, add-comm, suc-add, zero-add, suc-mul, mul-le-mul-right, mul-div-cancel, mul-mod-left, mul-sub, mul-one, mul-left-comm, eq-of-mul-eq-mul-right}
+use native.Mathlib.Nat.{pow-succ', div-one, div-div-eq-div-mul, div-lt-iff-lt-mul, div-add-mod', div-mul-le-self, lt-div-mul-add, mod-lt, mod-one, mul-comm, mul-assoc, add-comm, add-zero, suc-add, zero-add, suc-mul, mul-le-mul-right, mul-div-cancel, mul-mod-left, mul-sub, mul-one, mul-left-comm, eq-of-mul-eq-mul-right}
+use lib.Dec.{eqb}
+use lib.ListN.{length, getD}
 use lib.Pow.{pow-pos, pow-mono, pow-add, shr-shr, shl-shr, mod-pow-add, field}
 use lib.Arith.{digits-lt, digits-div, digits-mod, mod-mul}
+use mir.Syntax.{w32}
+use mir.Val.{Fits}
+use borrow.Author.Tests.{eqb-true}
+use Rattle.order.specs.TestLaws.{and→}
 use Rattle.squares.specs.declared.shape.Shape.{Shape}
 use Rattle.squares.specs.Shape.{side, width, height}
 use Rattle.squares.specs.PowerLaws.{four-pos}
 use Rattle.squares.specs.Leaves.{Below, Bits}
+use Rattle.squares.specs.Spread.{spread, tabled, Spread}
 use Rattle.squares.specs.Squares.{sideOn, squaresOn, squares, interleave, block, number, evens, cornerX, cornerY}
 
 -- ---- bits interleaved and taken apart
@@ -50,39 +59,36 @@ interleave-more zero (suc j) a h g =
 interleave-more (suc i) zero a h g = absurd (omega arith)
 interleave-more (suc i) (suc j) a h g = let e = interleave-more i j (a / 2) (omega (arith, pow-succ' 2 i)) (omega arith) in omega arith
 
--- the bits of a number of five, each with a 0 above it: bit by bit, and summed
-spread-more : (i a : ℕ) → interleave (suc i) a 0 + 2 * (a / 2) ≡ 4 * interleave i (a / 2) 0 + a
-unfolding interleave
-spread-more i a = omega arith
+-- a table that passes its test has its rule at each place
+tabled-at : (f : ℕ → ℕ) (i : ℕ) (l : List ℕ) → tabled f i l ≡ true → (j : ℕ) → j < length l → getD l j 0 ≡ f (i + j)
+tabled-at f i [] t j h = absurd (omega arith)
+tabled-at f i (n ∷ l) t zero h = rw (add-zero i) (eqb-true n (f i) (and→ (eqb n (f i)) (tabled f (suc i) l) t .0))
+tabled-at f i (n ∷ l) t (suc j) h = let e : i + suc j ≡ suc i + j = omega arith in rw e (tabled-at f (suc i) l (and→ (eqb n (f i)) (tabled f (suc i) l) t .1) j (omega arith))
 
-spread-last : (a : ℕ) → a < 2 → interleave 1 a 0 ≡ a
-unfolding interleave
-spread-last a h = omega arith
+module _ {l : List ℕ} (t : Spread l) (a : ℕ) (h : a < 32) where
+  pub spread-within : a < length l
+  spread-within = rw (t .long) h
 
-spread-sum : (a b c d e p q r s : ℕ) → p + 2 * b ≡ 4 * q + a → q + 2 * c ≡ 4 * r + b → r + 2 * d ≡ 4 * s + c → s + 2 * e ≡ 4 * e + d → a + 2 * b + (8 * c + (32 * d + 128 * e)) ≡ p
-spread-sum a b c d e p q r s h i j k = omega arith
+  pub spread-is : Below (spread a) 1024 (getD l a 0)
+  spread-is =
+      let e = rw (zero-add a) at (tabled-at spread 0 l (t .right) a spread-within) in
+      record { is = e; below = rw e (interleave-below 5 a 0) }
 
-pub spread-is : (a : ℕ) → a < 32 → Below (interleave 5 a 0) 1024 (a + 2 * (a / 2) + (8 * (a / 4) + (32 * (a / 8) + 128 * (a / 16))))
-spread-is a h =
-    let two : a / 2 / 2 ≡ a / 4 = omega arith in
-    let three : a / 4 / 2 ≡ a / 8 = omega arith in
-    let four : a / 8 / 2 ≡ a / 16 = omega arith in
-    let last = spread-last (a / 16) (omega arith) in
-    let is = spread-sum a (a / 2) (a / 4) (a / 8) (a / 16) _ _ _ _ (spread-more 4 a) (rw two at (spread-more 3 (a / 2))) (rw three at (spread-more 2 (a / 4))) (rw (four, last) at (spread-more 1 (a / 8))) in
-    record { is = is; below = rw is (interleave-below 5 a 0) }
+  pub spread-fits : Fits w32 (getD l a 0)
+  spread-fits = record { fits = omega (arith, spread-is .below) }
 
+pub interleaved-is : (a b r t : ℕ) → Below (spread a) 1024 r → Below (spread b) 1024 t → Below (interleave 5 a b) 1024 (r + 2 * t)
+interleaved-is a b r t p q = let e : r + 2 * t ≡ interleave 5 a b = rw (p .is, q .is) (sym (interleave-apart 5 a b)) in record { is = e; below = rw e (interleave-below 5 a b) }
+
+-- numbers of i bits
 module _ {i a b : ℕ} (h : Bits i a b) where
   pub bits-small : (a < 32) × (b < 32)
   bits-small = let m : 2 ^ i ≤ 32 = pow-mono (h .few) in omega (arith, h .across, h .up)
 
-  pub interleaved-is : (r t : ℕ) → Below (interleave 5 a 0) 1024 r → Below (interleave 5 b 0) 1024 t → Below (interleave i a b) (4 ^ i) (r + 2 * t)
-  interleaved-is r t p q =
-      let e : r + 2 * t ≡ interleave i a b = rw (p .is, q .is, interleave-more i 5 a (h .across) (h .few), interleave-more i 5 b (h .up) (h .few)) (sym (interleave-apart i a b)) in
+  pub bits-interleaved : {r : ℕ} → Below (interleave 5 a b) 1024 r → Below (interleave i a b) (4 ^ i) r
+  bits-interleaved {r} p =
+      let e : r ≡ interleave i a b = p .is ∙ rw (interleave-apart 5 a b, interleave-more i 5 a (h .across) (h .few), interleave-more i 5 b (h .up) (h .few)) (sym (interleave-apart i a b)) in
       record { is = e; below = rw e (interleave-below i a b) }
-
-  pub interleaved-none : i ≡ 0 → Below (interleave i a b) (4 ^ i) 0
-  unfolding interleave
-  interleaved-none e = rw e (record { is = refl; below = omega arith })
 
 -- the bits of a and of b come out as they went in
 pub evens-interleave : (i a b : ℕ) → evens i (interleave i a b) ≡ a % 2 ^ i

@@ -2,7 +2,8 @@
 ghost use Prim.Native.Nat.{_^_, _<_, _≤_};
 ghost use Rattle.squares.specs.Shape.{largestK};
 ghost use Rattle.squares.specs.Squares.{interleave, evens};
-ghost use Rattle.squares.specs.Leaves.{Positive, Below, Bits};
+ghost use Rattle.squares.specs.Leaves.{Positive, Below};
+ghost use Rattle.squares.specs.Spread.{spread, Spread};
 
 pub fn two_to(j: u32) -> u32
     requires { ⌜ j ≤ largestK ⌝ }
@@ -18,24 +19,57 @@ pub fn four_to(i: u32) -> u32
     1u32 << (2 * i)
 }
 
-// The bits of a, each with a 0 above it. Bit j is a / 2^j less 2 * (a / 2^(j + 1)), and goes to 4^j:
-// the sum of all five is this one.
-fn spread(a: u32) -> u32
+// The numbers of five bits, each bit with a 0 above it. Whoever takes the table has it on its stack, 64 bytes.
+pub const SPREAD: [u16; 32] = [
+    0,
+    1,
+    4,
+    5,
+    16,
+    17,
+    20,
+    21,
+    64,
+    65,
+    68,
+    69,
+    80,
+    81,
+    84,
+    85,
+    256,
+    257,
+    260,
+    261,
+    272,
+    273,
+    276,
+    277,
+    320,
+    321,
+    324,
+    325,
+    336,
+    337,
+    340,
+    341,
+];
+
+fn spread(table: &[u16], a: u32) -> u32
+    requires { ⌜ Spread (now table) ⌝ }
     requires { ⌜ a < 32 ⌝ }
-    ensures { λ r. ⌜ Below (interleave 5 a 0) 1024 r ⌝ }
+    ensures { λ r. ⌜ Below (spread a) 1024 r ⌝ }
 {
-    (a + 2 * (a / 2)) + (8 * (a / 4) + (32 * (a / 8) + 128 * (a / 16)))
+    table[a as usize] as u32
 }
 
-// The bits of a and b, i of each, b's bit above a's of the same rank.
-pub fn interleaved(i: u32, a: u32, b: u32) -> u32
-    requires { ⌜ Bits i a b ⌝ }
-    ensures { λ r. ⌜ Below (interleave i a b) (4 ^ i) r ⌝ }
+// The bits of a and b, five of each, b's bit above a's of the same rank.
+pub fn interleaved(table: &[u16], a: u32, b: u32) -> u32
+    requires { ⌜ Spread (now table) ⌝ }
+    requires { ⌜ (a < 32) × (b < 32) ⌝ }
+    ensures { λ r. ⌜ Below (interleave 5 a b) 1024 r ⌝ }
 {
-    if i == 0 {
-        return 0;
-    }
-    spread(a) + 2 * spread(b)
+    spread(table, a) + 2 * spread(table, b)
 }
 
 // Every other bit of n from the lowest on, i of them.

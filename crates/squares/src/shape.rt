@@ -1,4 +1,5 @@
 // The town's shape, a rectangle, a square, and what comes from the shape.
+use crate::powers::SPREAD;
 use crate::powers::evens_of;
 use crate::powers::four_to;
 use crate::powers::interleaved;
@@ -11,6 +12,7 @@ ghost use Rattle.squares.specs.Bounds.{Allowed};
 ghost use Rattle.squares.specs.Squares.{sideOn, squaresOn, squares, block, number, isCorner};
 ghost use Rattle.squares.specs.Made.{squareOf};
 ghost use Rattle.squares.specs.Leaves.{Positive, Below, OnMap, OnLevel};
+ghost use Rattle.squares.specs.Spread.{Spread, TwoBelow};
 
 // k, P and Q of a town: blocks of side 2^k, P of them west to east and Q south to north.
 pub struct Shape {
@@ -32,6 +34,12 @@ pub struct Square {
     pub x: u32,
     pub y: u32,
     pub side: u32,
+}
+
+// Two numbers.
+pub struct Pair {
+    pub first: u32,
+    pub second: u32,
 }
 
 pub enum Shaped {
@@ -200,16 +208,45 @@ impl Shape {
         true
     }
 
-    // The number of the square on a level in which a cell lies.
-    pub fn number(self, level: u32, x: u32, y: u32) -> u32
+    fn number_by(self, table: &[u16], level: u32, x: u32, y: u32) -> u32
+        requires { ⌜ Spread (now table) ⌝ }
         requires { ⌜ OnMap self x y ⌝ }
         requires { ⌜ OnLevel self level ⌝ }
         ensures { λ r. ⌜ Below (number self level x y) (squaresOn self level) r ⌝ }
     {
         let side = self.side();
         let part = self.side_on(level);
-        let local = interleaved(level, x % side / part, y % side / part);
+        let local = interleaved(table, x % side / part, y % side / part);
         four_to(level) * self.block(x, y) + local
+    }
+
+    // The numbers of the squares on a level in which two cells lie: one table for both, and on level 0 none.
+    pub fn numbers(self, level: u32, x: u32, y: u32, column: u32, row: u32) -> Pair
+        requires { ⌜ OnMap self x y ⌝ }
+        requires { ⌜ OnMap self column row ⌝ }
+        requires { ⌜ OnLevel self level ⌝ }
+        ensures { λ r. ⌜ TwoBelow (number self level x y) (number self level column row) (squaresOn self level) r ⌝ }
+    {
+        if level == 0 {
+            return Pair {
+                first: self.block(x, y),
+                second: self.block(column, row),
+            };
+        }
+        let table = SPREAD;
+        let first = self.number_by(&table, level, x, y);
+        let second = self.number_by(&table, level, column, row);
+        Pair { first, second }
+    }
+
+    // The number of the square on a level in which a cell lies.
+    pub fn number(self, level: u32, x: u32, y: u32) -> u32
+        requires { ⌜ OnMap self x y ⌝ }
+        requires { ⌜ OnLevel self level ⌝ }
+        ensures { λ r. ⌜ Below (number self level x y) (squaresOn self level) r ⌝ }
+    {
+        let both = self.numbers(level, x, y, x, y);
+        both.first
     }
 
     // The square with a number.

@@ -10,20 +10,20 @@ use Rattle.lookup.proofs.looks.cross.Statement.{statement}
 use Rattle.lookup.proofs.looks.cross.Tie as tie
 
 abbrev Inv-loop : tie.InvT-loop
-Inv-loop s zones starts entries x y column row entered₀ left₀ k from to differing old₀ new₀ up₀ came₀ gone₀ entered left old new up came gone = Crossing s zones starts entries x y column row entered₀ entered left₀ left differing old new up came gone
+Inv-loop s zones starts entries x y column row entered₀ left₀ k differing old₀ new₀ up₀ came₀ gone₀ entered left old new up came gone = Crossing s zones starts entries x y column row entered₀ entered left₀ left differing old new up came gone
 
 abbrev μ-loop : tie.MeasureT-loop
-μ-loop s zones starts entries x y column row entered₀ left₀ k from to differing old₀ new₀ up₀ came₀ gone₀ entered left old new up came gone = differing - up
+μ-loop s zones starts entries x y column row entered₀ left₀ k differing old₀ new₀ up₀ came₀ gone₀ entered left old new up came gone = differing - up
 
 -- ---- stations: from each the one before it
 
 abbrev start : tie.After-slice-known2 Inv-loop μ-loop → tie.Start Inv-loop μ-loop
 start c = c .before .before .before .before .before
 
-abbrev lent : tie.After-number2 Inv-loop μ-loop → tie.After-slice-known2 Inv-loop μ-loop
-lent c = c .before .before
+abbrev lent : tie.After-numbers Inv-loop μ-loop → tie.After-slice-known2 Inv-loop μ-loop
+lent c = c .before
 
-abbrev numbered : tie.At-loop Inv-loop μ-loop → tie.After-number2 Inv-loop μ-loop
+abbrev numbered : tie.At-loop Inv-loop μ-loop → tie.After-numbers Inv-loop μ-loop
 numbered c = c .before .before .before .before
 
 abbrev begin : tie.At-loop Inv-loop μ-loop → tie.Start Inv-loop μ-loop
@@ -46,27 +46,24 @@ units c = record { shape = c .pre .0 .shape; level = le-refl _ }
 
 -- ---- needs
 
-number-requires : tie.Need-number-requires Inv-loop μ-loop
-number-requires c κs = let at = start c in (at .pre .0, units at)
-
-number-requires-2 : tie.Need-number-requires-2 Inv-loop μ-loop
-number-requires-2 c κs = let at = start (c .before) in (at .pre .1 .0, units at)
+numbers-requires : tie.Need-numbers-requires Inv-loop μ-loop
+numbers-requires c κs = let at = start c in (at .pre .0, (at .pre .1 .0, units at))
 
 steps-apart-requires : tie.Need-steps-apart-requires Inv-loop μ-loop
 steps-apart-requires c κs = search needs
 
 place-of-requires : tie.Need-place-of-requires Inv-loop μ-loop
-place-of-requires c κs = let numbers = c .before in (units (start (lent numbers)), numbers .before .number .ensures .below)
+place-of-requires c κs = let numbers = c .before in (units (start (lent numbers)), numbers .numbers .ensures .first .below)
 
 place-of-requires-2 : tie.Need-place-of-requires-2 Inv-loop μ-loop
-place-of-requires-2 c κs = let numbers = c .before .before in (units (start (lent numbers)), numbers .number2 .ensures .below)
+place-of-requires-2 c κs = let numbers = c .before .before in (units (start (lent numbers)), numbers .numbers .ensures .second .below)
 
 loop-holds : tie.Need-loop-holds Inv-loop μ-loop
 loop-holds c =
     let steps = c .before .before in
     let numbers = steps .before in
     let at = start (lent numbers) in
-    cross-begins (at .pre .0) (at .pre .1 .0) _ _ _ _ _ (numbers .before .number .ensures) (numbers .number2 .ensures) (steps .steps-apart .ensures) (c .before .place-of .ensures) (c .place-of2 .ensures)
+    cross-begins (at .pre .0) (at .pre .1 .0) _ _ _ _ _ (numbers .numbers .ensures .first) (numbers .numbers .ensures .second) (steps .steps-apart .ensures) (c .before .place-of .ensures) (c .place-of2 .ensures)
 
 gather-outside-requires : tie.Need-gather-outside-requires Inv-loop μ-loop
 gather-outside-requires c κs =
@@ -121,8 +118,7 @@ cross-spec =
     (tie.spec
     Inv-loop
     μ-loop
-    number-requires
-    number-requires-2
+    numbers-requires
     steps-apart-requires
     place-of-requires
     place-of-requires-2

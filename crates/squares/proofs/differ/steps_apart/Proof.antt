@@ -1,4 +1,4 @@
--- The squares that differ, from the highest bit in which the two numbers differ.
+-- The squares that differ, from the highest bit in which the columns or the rows differ.
 use native.Mathlib.Nat.{le-trans}
 use lib.Dec.{lit≤}
 use lib.Count.{leading-le}
@@ -14,10 +14,10 @@ add-result : tie.Need-add-result
 add-result c = search needs
 
 returns : tie.Need-returns
-returns c = steps-all (c .before .fits .a .fits) (c .before .fits .b .fits) (c .if1 .taken)
+returns c = let fits = c .before .fits in steps-all (fits .x .fits) (fits .y .fits) (fits .column .fits) (fits .row .fits) (c .if1 .taken)
 
 returns-2 : tie.Need-returns-2
-returns-2 c = steps-some (c .before .fits .a .fits) (c .before .fits .b .fits) (c .if1 .left)
+returns-2 c = let fits = c .before .fits in steps-some (fits .x .fits) (fits .y .fits) (fits .column .fits) (fits .row .fits) (c .if1 .left)
 
 pub steps-apart-spec : {M : Type 1} → statement M
 steps-apart-spec = tie.close (tie.spec sub-steps add-result returns returns-2)

@@ -1,5 +1,5 @@
--- The bits of a number spread: the sum is the interleaving with 0.
-use Rattle.squares.specs.SquareLaws.{spread-is}
+-- The bits of a number spread: the table has its rule at each place.
+use Rattle.squares.specs.SquareLaws.{spread-within, spread-is, spread-fits}
 use borrow.Author.Needs.{needs}
 use Rattle.squares.proofs.powers.spread.Statement.{statement}
 use Rattle.squares.proofs.powers.spread.Tie as tie
@@ -7,40 +7,14 @@ use Rattle.squares.proofs.powers.spread.Tie as tie
 mul-result : tie.Need-mul-result
 mul-result c = search needs
 
-add-result : tie.Need-add-result
-add-result c = search needs
+shared-slice-read-result : tie.Need-shared-slice-read-result
+shared-slice-read-result c = let pre = c .before .pre in spread-within (pre .0) _ (pre .1)
 
-mul-result-2 : tie.Need-mul-result-2
-mul-result-2 c = search needs
-
-mul-result-3 : tie.Need-mul-result-3
-mul-result-3 c = search needs
-
-mul-result-4 : tie.Need-mul-result-4
-mul-result-4 c = search needs
-
-add-result-2 : tie.Need-add-result-2
-add-result-2 c = search needs
-
-add-result-3 : tie.Need-add-result-3
-add-result-3 c = search needs
-
-add-result-4 : tie.Need-add-result-4
-add-result-4 c = search needs
+cast-result : tie.Need-cast-result
+cast-result c = let pre = c .before .pre in spread-fits (pre .0) _ (pre .1)
 
 returns : tie.Need-returns
-returns c = spread-is _ (c .pre)
+returns c = let pre = c .before .pre in spread-is (pre .0) _ (pre .1)
 
 pub spread-spec : {M : Type 1} → statement M
-spread-spec =
-    tie.close
-    (tie.spec
-    mul-result
-    add-result
-    mul-result-2
-    mul-result-3
-    mul-result-4
-    add-result-2
-    add-result-3
-    add-result-4
-    returns)
+spread-spec = tie.close (tie.spec mul-result shared-slice-read-result cast-result returns)
