@@ -18,10 +18,12 @@ abbrev pub tabled : (ℕ → ℕ) → ℕ → List ℕ → Bool
 tabled f i [] = true
 tabled f i (n ∷ l) = eqb n (f i) && tabled f (suc i) l
 
+-- a table of the spreads of all numbers of five bits
 pub record Spread (table : List ℕ) : Type 0 where
   pub long : length table ≡ 32
   pub right : tabled spread 0 table ≡ true
 
+-- two numbers by their definitions, below one bound
 pub record TwoBelow (m n bound : ℕ) (r : Pair) : Type 0 where
   pub first : Below m bound (r .first)
   pub second : Below n bound (r .second)
