@@ -18,6 +18,9 @@ static int play(unwadegiro_town *town)
     if (unwadegiro_town_report(town, 7, 3, 5.5f, 3.0f, entered, 16, left, 16, values, 3) != UNWADEGIRO_DONE)
         return 1;
     printf("car 7 of team 3 entered %u zone, the first is %u\n", (unsigned)values[1], (unsigned)entered[0]);
+    if (unwadegiro_town_scoring(town, 5.5f, 3.0f, values, 2) != UNWADEGIRO_DONE)
+        return 1;
+    printf("its spot scores: %s, %u level looked at\n", values[0] == 1 ? "yes" : "no", (unsigned)values[1]);
     if (unwadegiro_town_count(town, 1, values, 1) != UNWADEGIRO_DONE)
         return 1;
     printf("zone 1 counts %u car\n", (unsigned)values[0]);

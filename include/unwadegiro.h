@@ -212,6 +212,19 @@ uint32_t unwadegiro_search(const uint32_t *head, size_t head_len, const uint32_t
                            float x, float y, uint32_t *found, size_t found_len, uint32_t *values, size_t values_len);
 
 /*
+ * Whether any zone holds a position: yes exactly where unwadegiro_search would write a zone. It goes from the cell of the
+ * position up to its block and ends at the first square that is in a zone's cut, so it takes no buffer and no list.
+ * Values, 2: 1 for yes, 0 for no; how many levels were looked at, 1 to k + 1: up to and with the one that it ended at, or
+ * k + 1 where there is none.
+ * Refusals: 3, 10.
+ */
+uint32_t unwadegiro_scoring(const uint32_t *head, size_t head_len, const uint32_t *zones, size_t zones_len,
+                            const uint32_t *cars, size_t cars_len, const float *spots, size_t spots_len,
+                            const uint32_t *starts, size_t starts_len, const uint32_t *entries, size_t entries_len,
+                            const uint8_t *rosters, size_t rosters_len, const uint32_t *tallies, size_t tallies_len,
+                            float x, float y, uint32_t *values, size_t values_len);
+
+/*
  * The cars in a zone, into `inside`, which must have room for the car capacity.
  * Values, 1: how many cars are in `inside`.
  * Refusals: 3, 4, 7, 11.
@@ -480,6 +493,12 @@ static inline uint32_t unwadegiro_town_search(const unwadegiro_town *town, float
                                               size_t found_len, uint32_t *values, size_t values_len)
 {
     return unwadegiro_search(UNWADEGIRO_LENT(town), x, y, found, found_len, values, values_len);
+}
+
+static inline uint32_t unwadegiro_town_scoring(const unwadegiro_town *town, float x, float y, uint32_t *values,
+                                               size_t values_len)
+{
+    return unwadegiro_scoring(UNWADEGIRO_LENT(town), x, y, values, values_len);
 }
 
 static inline uint32_t unwadegiro_town_roster(const unwadegiro_town *town, uint32_t zone, uint32_t *inside,

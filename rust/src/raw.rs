@@ -43,6 +43,9 @@ table_calls! {
     /// The zones that hold a position. Two values: squares, zones.
     unwadegiro_search(const, const, const, const, const, const, const, const;
         x: f32, y: f32, found: *mut u32, found_len: usize, values: *mut u32, values_len: usize);
+    /// Whether any zone holds a position. Two values: 1 or 0, levels looked at.
+    unwadegiro_scoring(const, const, const, const, const, const, const, const;
+        x: f32, y: f32, values: *mut u32, values_len: usize);
     /// The cars in a zone. One value: how many.
     unwadegiro_roster(const, const, const, const, const, const, const, const;
         zone: u32, inside: *mut u32, inside_len: usize, values: *mut u32, values_len: usize);

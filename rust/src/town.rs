@@ -89,6 +89,15 @@ pub struct Found<'a> {
     pub zones: &'a [u32],
 }
 
+/// Whether a position scores.
+#[derive(Clone, Copy, Debug, PartialEq, Eq)]
+pub struct Scoring {
+    /// Whether any zone holds it.
+    pub scores: bool,
+    /// How many levels were looked at, from the unit cell up: to the first whose square is in a zone's cut, or all k + 1.
+    pub levels: u32,
+}
+
 /// How the teams stand in a zone.
 #[derive(Clone, Copy, Debug, PartialEq, Eq)]
 pub struct Standing {
@@ -379,6 +388,28 @@ impl Town {
         )?;
         let [squares, zones] = values;
         Ok(Found { squares, zones: &self.came[..zones as usize] })
+    }
+
+    /// Whether any zone holds a position: just where [`Town::search`] finds one. It ends at the first square that has a
+    /// zone, and makes no list. Refusal: [`Refusal::PositionOffMap`].
+    ///
+    /// ```
+    /// # use unwadegiro::{Capacities, Position, Rectangle, Refusal, Scoring, Shape, Town};
+    /// # let room = Capacities { zones: 2, cars: 8, entries: 64 };
+    /// let mut town = Town::open(Shape { k: 2, p: 4, q: 4 }, room)?;
+    /// town.add(0, Rectangle { a: 8, b: 8, w: 5, h: 4 })?;
+    /// // the cell (9, 9) lies in a block that the zone holds whole, the cell (12, 9) in a row of cells
+    /// assert_eq!(town.scoring(Position { x: 9.5, y: 9.5 })?, Scoring { scores: true, levels: 3 });
+    /// assert_eq!(town.scoring(Position { x: 12.5, y: 9.5 })?, Scoring { scores: true, levels: 1 });
+    /// assert!(!town.scoring(Position { x: 13.5, y: 9.5 })?.scores);
+    /// assert_eq!(town.scoring(Position { x: 16.5, y: 9.5 }), Err(Refusal::PositionOffMap));
+    /// # Ok::<(), Refusal>(())
+    /// ```
+    pub fn scoring(&self, at: Position) -> Result<Scoring, Refusal> {
+        let mut values = [0; 2];
+        read!(unwadegiro_scoring, self, at.x, at.y, values.as_mut_ptr(), values.len())?;
+        let [yes, levels] = values;
+        Ok(Scoring { scores: yes == 1, levels })
     }
 
     /// The cars in a zone, lowest first. Refusals: [`Refusal::NoSuchZone`], [`Refusal::ZoneStandsNot`].

@@ -268,6 +268,42 @@ fn squares_looked_into() {
 }
 
 #[test]
+fn scoring_ends_at_the_first_list() {
+    let mut town = Town::open(TOWN, ROOM).unwrap();
+    let told = |town: &Town, x, y| town.scoring(at(x, y)).map(|told| (told.scores, told.levels));
+    assert_eq!(told(&town, 10.0, 11.0), Ok((false, 3)));
+    town.add(1, rectangle(5, 2, 8, 12)).unwrap();
+    // its unit cell, its square on level 1, its block
+    assert_eq!([(5.5, 3.0), (6.0, 2.0), (10.0, 11.0)].map(|(x, y)| told(&town, x, y).unwrap().1), [1, 2, 3]);
+    for (x, y) in [(4.5, 3.0), (13.0, 3.0), (5.5, 1.5), (5.5, 14.0)] {
+        assert_eq!(told(&town, x, y), Ok((false, 3)));
+    }
+    // every cell, beside the search
+    town.add(0, rectangle(10, 11, 1, 1)).unwrap();
+    assert_eq!(told(&town, 10.0, 11.0), Ok((true, 1)));
+    for (x, y) in (0..16).flat_map(|x| (0..16).map(move |y| (x as f32, y as f32))) {
+        let found = !town.search(at(x, y)).unwrap().zones.is_empty();
+        let (scores, levels) = told(&town, x, y).unwrap();
+        assert_eq!(scores, found);
+        assert!(if scores { (1..=3).contains(&levels) } else { levels == 3 });
+    }
+    town.remove(1).unwrap();
+    assert_eq!(told(&town, 5.5, 3.0), Ok((false, 3)));
+    assert_eq!(told(&town, 10.0, 11.0), Ok((true, 1)));
+    // at the walls, and past them
+    town.add(2, rectangle(15, 15, 1, 1)).unwrap();
+    assert_eq!(told(&town, 16.0, 16.0), Ok((true, 1)));
+    for off in [f32::from_bits(0x4180_0001), -1.0, f32::NAN, f32::INFINITY] {
+        assert_eq!(told(&town, off, 3.0), Err(Refusal::PositionOffMap));
+        assert_eq!(told(&town, 3.0, off), Err(Refusal::PositionOffMap));
+    }
+    // with k = 0 there is one level
+    let mut flat = Town::open(Shape { k: 0, p: 3, q: 2 }, ROOM).unwrap();
+    flat.add(0, rectangle(1, 0, 2, 2)).unwrap();
+    assert_eq!([0.0, 1.0].map(|x| told(&flat, x, 0.0)), [Ok((false, 1)), Ok((true, 1))]);
+}
+
+#[test]
 fn positions_at_the_edge() {
     let wide = Shape { k: 5, p: 8, q: 8 };
     let mut town = Town::open(wide, ROOM).unwrap();

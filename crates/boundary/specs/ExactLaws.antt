@@ -11,6 +11,7 @@ use lib.ListN.{length, getD, drop, replicate}
 use lib.Seq.{sets}
 use borrow.Author.Tests.{leb-true, ltb-true}
 use Rattle.order.specs.Order.{upto, span, keep}
+use Rattle.order.specs.Sums.{bit}
 use Rattle.order.specs.KeepLaws.{length-keep, length-span}
 use Rattle.order.specs.TestLaws.{and→}
 use Rattle.squares.specs.declared.shape.Shape.{Shape}
@@ -29,7 +30,8 @@ use Rattle.position.specs.Answer.{columnOf, rowOf}
 use Rattle.model.specs.declared.answers.SoundnessOf.{SoundnessOf}
 use Rattle.model.specs.Answers.{Values, soundnessIs}
 use Rattle.model.specs.TeamLaws.{lead-small}
-use Rattle.model.specs.Model.{Car, holdsCar, roster, drivesFor, squad, standing, looked, spotted, Call, opening, adding, removing, reporting, leaving, searching, askRoster, askCount, askHolder, askWhere, askSoundness, Event, meaning}
+use Rattle.model.specs.ScoringLaws.{climb-few}
+use Rattle.model.specs.Model.{Car, holdsCar, roster, drivesFor, squad, standing, zonesAt, zonesOn, filled, looked, spotted, Call, opening, adding, removing, reporting, leaving, searching, askScoring, askRoster, askCount, askHolder, askWhere, askSoundness, Event, meaning}
 use Rattle.tables.specs.Tables.{Tables, shapeOf, zoneRoom, carRoom, carIn, townOf}
 use Rattle.tables.specs.CheckLaws.{roomy→, size-of}
 use Rattle.tables.specs.Sound.{Sound}
@@ -97,6 +99,10 @@ module _ {t : Tables} (s : Sound t) where
 cut-few : (s : Shape) (r : Rect) → Allowed s → length (cut s r) < 4294967296
 cut-few s r h = omega (arith, count-few s r (length (cut s r)) h refl .few)
 
+bit-few : (b : Bool) → bit b < 4294967296
+bit-few true = omega arith
+bit-few false = omega arith
+
 -- every number that a call gives, where its outcome is set: on sound tables that is every call's (promises' trusts-sound)
 pub gives-small : (t : Tables) (call : Call) (sound : Bool) → Trusts (means t call .trusts) sound t → Small (numbersOf (means t call .gives sound))
 unfolding meaning
@@ -106,6 +112,7 @@ gives-small t (removing z) sound h = tt
 gives-small t (reporting c g p entered left) sound h = (looked-few h (carIn t c) p, (zones-few h _, (zones-few h _, tt)))
 gives-small t (leaving c left) sound h = (levels-few h, (zones-few h _, tt))
 gives-small t (searching p found) sound h = (levels-few h, (zones-few h _, tt))
+gives-small t (askScoring p) sound h = (bit-few (filled (zonesAt (townOf t) p)), (omega (arith, climb-few (λ (i : ℕ). filled (zonesOn (townOf t) p i)) (shapeOf t .k), levels-few h), tt))
 gives-small t (askRoster z inside) sound h = (cars-few h _, tt)
 gives-small t (askCount z) sound h = (cars-few h _, tt)
 gives-small t (askHolder z) sound h = standing-few h z

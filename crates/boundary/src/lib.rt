@@ -2,7 +2,7 @@
 mod shapes; // shapes.rt: the calls without tables
 mod town; // town.rt: a town opened, zones added and taken away
 mod reports; // reports.rt: cars placed, moved and taken off the map
-mod reads; // reads.rt: search, roster, count, holder, where a car is, and soundness
+mod reads; // reads.rt: search, scoring, roster, count, holder, where a car is, and soundness
 mod log; // log.rt: the log, a piece of it and its end
 
 pub use log::unwadegiro_log;
@@ -10,6 +10,7 @@ pub use log::unwadegiro_log_end;
 pub use reads::unwadegiro_count;
 pub use reads::unwadegiro_holder;
 pub use reads::unwadegiro_roster;
+pub use reads::unwadegiro_scoring;
 pub use reads::unwadegiro_search;
 pub use reads::unwadegiro_sound;
 pub use reads::unwadegiro_where;

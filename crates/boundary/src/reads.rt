@@ -1,13 +1,14 @@
-// Search, roster, count, holder, where a car is, and soundness.
+// Search, scoring, roster, count, holder, where a car is, and soundness.
 use position::Position;
 use values::tell_count;
 use values::tell_holder;
 use values::tell_roster;
+use values::tell_scoring;
 use values::tell_searched;
 use values::tell_soundness;
 use values::tell_where;
 ghost use Rattle.tables.specs.Lent.{lent};
-ghost use Rattle.promises.specs.Events.{searched, rosterTold, countTold, holderTold, soundnessTold};
+ghost use Rattle.promises.specs.Events.{searched, scoringTold, rosterTold, countTold, holderTold, soundnessTold};
 ghost use Rattle.boundary.specs.Promises.{point, Relays, Pointed};
 
 // Two values: the squares looked into, the zones found.
@@ -42,6 +43,38 @@ pub extern "C" fn unwadegiro_search(
         found,
     );
     tell_searched(searched, values)
+}
+
+// Two values: 1 where a zone holds the position and 0 where none does, the levels looked at.
+#[no_mangle]
+pub extern "C" fn unwadegiro_scoring(
+    head: &[u32],
+    zones: &[u32],
+    cars: &[u32],
+    spots: &[f32],
+    starts: &[u32],
+    entries: &[u32],
+    rosters: &[u8],
+    tallies: &[u32],
+    x: f32,
+    y: f32,
+    values: &mut [u32],
+) -> u32
+    ensures { λ r'. ⌜ Relays 2 (lent head zones cars spots starts entries rosters tallies) (scoringTold (point x y)) (now (values .entry)) (now (values .exit)) r' ⌝ }
+{
+    let p = Position { x, y };
+    let scoring = readings::scoring_of_spot(
+        head,
+        zones,
+        cars,
+        spots,
+        starts,
+        entries,
+        rosters,
+        tallies,
+        p,
+    );
+    tell_scoring(scoring, values)
 }
 
 // One value: the cars written.

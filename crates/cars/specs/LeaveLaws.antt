@@ -37,7 +37,7 @@ use Rattle.edits.specs.StampLaws.{departed-is}
 use Rattle.lookup.specs.declared.looks.Looked.{Looked}
 use Rattle.lookup.specs.Looks.{Looks}
 use Rattle.lookup.specs.LookLaws.{looked-holds}
-use Rattle.lookup.specs.SpotLaws.{spot-off, spot-on, look-asks}
+use Rattle.lookup.specs.SpotLaws.{spot-off, spot-on, spot-asks}
 use Rattle.cars.specs.SeeLaws.{front-is}
 
 pub record Leavable (t : Tables) (c : ℕ) (b : List ℕ) : Type 0 where
@@ -68,7 +68,7 @@ module _ {t : Tables} {c : ℕ} {b : List ℕ} (ok : Leavable t c b) {s : Shape}
     stood = spot-on t (spotOf t c) (ok .size) shape where-is x y e
 
     pub leave-asks : OnMap s x y × (length (t .derived .starts) ≡ squares s + 1)
-    leave-asks = rw (shape, ← stood .1, ← stood .2) (look-asks t (spotOf t c) (ok .size))
+    leave-asks = spot-asks t (spotOf t c) (ok .size) shape where-is x y e
 
     module _ {b′ : List ℕ} {r : Looked} (h : Looks s x y (t .derived .starts) (t .derived .entries) b b′ r) where
       found : Sound t → Front b b′ (r .zones) (zonesOf (townOf t) c)

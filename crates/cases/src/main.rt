@@ -8,6 +8,7 @@ use grid::NumberOf;
 use grid::SquareOf;
 use libc::STDOUT_FILENO;
 use model::HolderOf;
+use model::ScoringOf;
 use position::Coordinate;
 use position::Position;
 use position::Spot;
@@ -88,6 +89,24 @@ pub fn bracket(out: &[u32]) {
     text(b" [");
     first_eight(out);
     text(b" ]");
+    end();
+}
+
+// Yes as 1, no as 0, and the levels looked at.
+pub fn say_scoring(answer: ScoringOf) {
+    match answer {
+        ScoringOf::Refused(n) => number(n as u64),
+        ScoringOf::Yes(levels) => {
+            number(0);
+            number(1);
+            number(levels as u64);
+        }
+        ScoringOf::No(levels) => {
+            number(0);
+            number(0);
+            number(levels as u64);
+        }
+    }
     end();
 }
 

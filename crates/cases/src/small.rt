@@ -3,6 +3,7 @@ use crate::bracket;
 use crate::end;
 use crate::number;
 use crate::say_holder;
+use crate::say_scoring;
 use crate::text;
 use model::CountOf;
 use model::Opened;
@@ -173,6 +174,37 @@ fn search(x: u32, y: u32, out: &mut [u32]) {
     bracket(out);
 }
 
+fn scoring(x: u32, y: u32) {
+    let t = standing();
+    let head = t.head;
+    let zones = t.zones;
+    let cars = t.cars;
+    let spots = t.spots;
+    let starts = t.starts;
+    let entries = t.entries;
+    let rosters = t.rosters;
+    let tallies = t.tallies;
+    text(b"scoring");
+    number(x as u64);
+    number(y as u64);
+    text(b" ->");
+    let p = Position {
+        x: float_of(x),
+        y: float_of(y),
+    };
+    say_scoring(readings::scoring_of_spot(
+        &head,
+        &zones,
+        &cars,
+        &spots,
+        &starts,
+        &entries,
+        &rosters,
+        &tallies,
+        p,
+    ));
+}
+
 fn roster(zone: u32, out: &mut [u32]) {
     let t = standing();
     let head = t.head;
@@ -312,6 +344,13 @@ fn reads() {
     search(0x4000_0001, 0x0000_0000, &mut out);
     search(0x0000_0000, 0x4000_0000, &mut out);
     search(0x8000_0000, 0x0000_0000, &mut out);
+    scoring(0x3FC0_0000, 0x3F00_0000);
+    scoring(0x3F00_0000, 0x0000_0000);
+    scoring(0x3F00_0000, 0x3F80_0000);
+    scoring(0x4000_0000, 0x0000_0000);
+    scoring(0x4000_0001, 0x0000_0000);
+    scoring(0x0000_0000, 0x4000_0000);
+    scoring(0x8000_0000, 0x0000_0000);
     roster(1, &mut out);
     roster(0, &mut out);
     roster(2, &mut out);

@@ -4,6 +4,7 @@ use crate::bracket;
 use crate::end;
 use crate::number;
 use crate::say_holder;
+use crate::say_scoring;
 use crate::text;
 use model::Added;
 use model::CountOf;
@@ -324,6 +325,39 @@ fn holder(
     ));
 }
 
+fn scoring(
+    head: &[u32],
+    zones: &[u32],
+    cars: &[u32],
+    spots: &[f32],
+    starts: &[u32],
+    entries: &[u32],
+    rosters: &[u8],
+    tallies: &[u32],
+    x: u32,
+    y: u32,
+) {
+    text(b"scoring");
+    number(x as u64);
+    number(y as u64);
+    text(b" ->");
+    let p = Position {
+        x: float_of(x),
+        y: float_of(y),
+    };
+    say_scoring(readings::scoring_of_spot(
+        head,
+        zones,
+        cars,
+        spots,
+        starts,
+        entries,
+        rosters,
+        tallies,
+        p,
+    ));
+}
+
 // One line: what it asks, and five numbers, a report's third being its team. A roster's count and holder follow it.
 fn line(
     head: &[u32],
@@ -401,6 +435,21 @@ fn line(
         );
         return;
     }
+    if letter == 83 {
+        scoring(
+            head,
+            zones,
+            cars,
+            spots,
+            starts,
+            entries,
+            rosters,
+            tallies,
+            a,
+            b,
+        );
+        return;
+    }
     roster(
         head,
         zones,
@@ -472,18 +521,49 @@ fn lines(
     }
 }
 
-// The whole case; then a car that stands where a zone is added, steps within a block and between blocks, within a cell, off
-// the map, a car that is none, and a zone taken away; then a car at the east wall and in the corner of the walls, with zones
-// that end there or a cell before; then teams: two spectators in a zone, a team's car with them, a second team level with it, a
-// lead, a car that would change its team, a team that is none, a zone added over all, the lead lost by one leave, and the car
-// back in the other team.
-const SCRIPT: [u32; 294] = [
+// The whole case, with its zone asked for on each level, beside it and past the wall; then a car that stands where a zone
+// is added, steps within a block and between blocks, within a cell, off the map, a car that is none, and a zone taken away,
+// asked for again; then a car at the east wall and in the corner of the walls, with zones that end there or a cell before;
+// then teams: two spectators in a zone, a team's car with them, a second team level with it, a lead, a car that would
+// change its team, a team that is none, a zone added over all, the lead lost by one leave, and the car back in the other
+// team.
+const SCRIPT: [u32; 336] = [
     65,
     1,
     5,
     2,
     8,
     12,
+    83,
+    0,
+    0x40B0_0000,
+    0x4040_0000,
+    0,
+    0,
+    83,
+    0,
+    0x40C0_0000,
+    0x4000_0000,
+    0,
+    0,
+    83,
+    0,
+    0x4120_0000,
+    0x4130_0000,
+    0,
+    0,
+    83,
+    0,
+    0,
+    0,
+    0,
+    0,
+    83,
+    0,
+    0x4180_0001,
+    0,
+    0,
+    0,
     80,
     7,
     0x40B0_0000,
@@ -578,6 +658,18 @@ const SCRIPT: [u32; 294] = [
     1,
     0,
     0,
+    0,
+    0,
+    83,
+    0,
+    0x4120_0000,
+    0x4130_0000,
+    0,
+    0,
+    83,
+    0,
+    0x4118_0000,
+    0x4108_0000,
     0,
     0,
     68,

@@ -15,7 +15,7 @@ use Rattle.model.specs.declared.answers.Opened.{Opened}
 use Rattle.model.specs.Answers.{Values, numbers}
 use Rattle.model.specs.Teams.{lastTeam}
 use Rattle.model.specs.TeamLaws.{teamed-few}
-use Rattle.model.specs.Model.{Opening, Car, Town, known, Call, opening, adding, removing, reporting, leaving, searching, askRoster, askCount, askHolder, askWhere, askSoundness, Event, Change, emptied, nothing, changeOf, changeBy, change, after, Lengths, meaning}
+use Rattle.model.specs.Model.{Opening, Car, Town, known, Call, opening, adding, removing, reporting, leaving, searching, askScoring, askRoster, askCount, askHolder, askWhere, askSoundness, Event, Change, emptied, nothing, changeOf, changeBy, change, after, Lengths, meaning}
 use Rattle.tables.specs.Tables.{Tables, tally, shapeOf, zoneRoom, carRoom, entryRoom, zoneIn, carIn, townOf, openingIn}
 use Rattle.tables.specs.Check.{long}
 use Rattle.tables.specs.Sizes.{Long}
@@ -73,6 +73,7 @@ module _ (t : Tables) (sound : Sound t) where
       record { is = refl; sound = report-sound t sound c a there (h .1 .1 .1 .0) (le-leb g lastTeam (teamed-few (carIn t c) g (h .1 .1 .0))); town = town-car-at t (size-of sound) c there a }
   next-accepted (leaving c left) none late = record { is = refl; sound = leave-sound t sound c; town = town-car-off t c }
   next-accepted (searching p found) none late = next-same
+  next-accepted (askScoring p) none late = next-same
   next-accepted (askRoster z inside) none late = next-same
   next-accepted (askCount z) none late = next-same
   next-accepted (askHolder z) none late = next-same

@@ -14,6 +14,7 @@ use Rattle.order.specs.Sums.{sum, bit}
 use Rattle.order.specs.TestLaws.{lt-or-le, true-not-false}
 use Rattle.order.specs.SumLaws.{sum-ext, count-one}
 use Rattle.squares.specs.declared.shape.Rect.{Rect}
+use Rattle.squares.specs.Bounds.{Allowed}
 use Rattle.cuts.specs.Cut.{cut}
 use Rattle.squares.specs.Refusals.{first, Answer, refuse, accept, Result, giving, result}
 use Rattle.squares.specs.RefusalLaws.{clear, by-refusal}
@@ -23,16 +24,18 @@ use Rattle.model.specs.declared.answers.Added.{Added}
 use Rattle.model.specs.declared.answers.Reported.{Reported}
 use Rattle.model.specs.declared.answers.Left.{Left}
 use Rattle.model.specs.declared.answers.Searched.{Searched}
+use Rattle.model.specs.declared.answers.ScoringOf.{ScoringOf}
 use Rattle.model.specs.declared.answers.RosterOf.{RosterOf}
 use Rattle.model.specs.declared.answers.CountOf.{CountOf}
 use Rattle.model.specs.declared.answers.HolderOf.{HolderOf}
 use Rattle.model.specs.declared.answers.WhereIs.{WhereIs}
 use Rattle.model.specs.declared.answers.SoundnessOf.{SoundnessOf}
-use Rattle.model.specs.Answers.{Values, numbers, addedIs, reportedIs, leftIs, searchedIs, rosterIs, countIs, holderIs, whereIs, soundnessIs}
+use Rattle.model.specs.Answers.{Values, numbers, spot, addedIs, reportedIs, leftIs, searchedIs, scoringIs, rosterIs, countIs, holderIs, whereIs, soundnessIs}
 use Rattle.model.specs.AnswerLaws.{added-same, reported-same, left-same, searched-same, roster-same, count-same, where-same, soundness-same}
 use Rattle.model.specs.Teams.{lastTeam}
 use Rattle.model.specs.TeamLaws.{squads-sum, teamed-own}
-use Rattle.model.specs.Model.{Opening, Car, Town, there, known, holdsSpot, holdsCar, roster, squad, holder, standing, zonesAt, zonesOf, zonesEntered, zonesLeft, looked, Call, opening, adding, reporting, leaving, searching, askRoster, askCount, askHolder, askWhere, askSoundness, Event, zoneOn, carAt, change, after, Lengths, meaning, refusal, refused, outcome}
+use Rattle.model.specs.Model.{Opening, Car, Town, there, known, holdsSpot, holdsCar, roster, squad, holder, standing, zonesAt, zonesOf, zonesEntered, zonesLeft, looked, zonesOn, filled, levels, Call, opening, adding, reporting, leaving, searching, askScoring, askRoster, askCount, askHolder, askWhere, askSoundness, Event, zoneOn, carAt, change, after, Lengths, meaning, refusal, refused, outcome}
+use Rattle.model.specs.ScoringLaws.{Ends, climb-ends, climb-all, scores-somewhere}
 use Rattle.model.specs.RosterLaws.{report-other, report-own, report-same, report-roster}
 use Rattle.tables.specs.Tables.{Tables, tally, zoneRoom, carRoom, stands, placed, carIn, townOf, rosterHas}
 use Rattle.tables.specs.RecordLaws.{stands-known, placed-known, car-in}
@@ -125,6 +128,21 @@ module _ {es : List Event} {t : Tables} (h : History es t) where
   search-true {p} {b} {b′} {answer} k q =
       let a = accepted-true (event (searching p b) (b′ ∷ []) (searchedIs answer)) t k q in
       (searched-same answer (Searched.Found (said es .opening .shape .k + 1) (length (zonesAt (said es) p))) (ap (λ (r : Result Values). r .answer) a), ap (buffer 0) a)
+
+  -- a scoring says yes exactly where one of them is found, and how many levels are looked at
+  pub scoring-true : {p : Position} (answer : ScoringOf) → Keeps (both t t) (event (askScoring p) [] (scoringIs answer)) → refusal (lengthsSaid es) (said es) (askScoring p) ≡ 0 → scoringIs answer ≡ accept (numbers (bit (filled (zonesAt (said es) p)) ∷ levels (said es) p ∷ []))
+  unfolding meaning
+  scoring-true {p} answer k q = ap (λ (r : Result Values). r .answer) (accepted-true (event (askScoring p) [] (scoringIs answer)) t k q)
+
+  -- those levels: up to and with the first, from the unit cell on, whose square is in the cut of a standing zone; or all
+  shape-allowed : Allowed (said es .opening .shape)
+  shape-allowed = subst (λ (m : Town). Allowed (m .opening .shape)) town-after (size-of sound-after .shape)
+
+  pub levels-first : (p : Position) → filled (zonesAt (said es) p) ≡ true → Ends (λ (i : ℕ). filled (zonesOn (said es) p i)) (said es .opening .shape .k)
+  levels-first p e = climb-ends (λ (i : ℕ). filled (zonesOn (said es) p i)) (said es .opening .shape .k) (sym (scores-somewhere (said es) p shape-allowed) ∙ e)
+
+  pub levels-all : (p : Position) → filled (zonesAt (said es) p) ≡ false → levels (said es) p ≡ said es .opening .shape .k + 1
+  levels-all p e = climb-all (λ (i : ℕ). filled (zonesOn (said es) p i)) (said es .opening .shape .k) (sym (scores-somewhere (said es) p shape-allowed) ∙ e)
 
   -- a report's square count, zones entered and zones left are what its old and new cells give
   pub report-true : {t′ : Tables} {c g : ℕ} {p : Position} {e e′ l l′ : List ℕ} {answer : Reported} → Keeps (both t t′) (event (reporting c g p e l) (e′ ∷ l′ ∷ []) (reportedIs answer)) → refusal (lengthsSaid es) (said es) (reporting c g p e l) ≡ 0 → (answer ≡ Reported.Done (looked (said es .opening .shape) (said es .car c) p) (length (zonesEntered (said es) c p)) (length (zonesLeft (said es) c p))) × (e′ ≡ over (zonesEntered (said es) c p) e) × (l′ ≡ over (zonesLeft (said es) c p) l)
@@ -265,6 +283,27 @@ module _ {es : List Event} {t : Tables} (h : History es t) where
   pub holder-accepted : (z : ℕ) {r : Rect} → said es .zone z ≡ some r → refusal (lengthsSaid es) (said es) (askHolder z) ≡ 0
   unfolding meaning first
   holder-accepted z e = rw (lt-ltb z (said es .opening .zones) (zone-there e), e)
+
+-- ---- on sound tables, after whatever they were made by
+
+-- a scoring says yes exactly when a search of the same position writes a zone
+pub scoring-search : {t t′ t″ : Tables} → Sound t → {p : Position} {b : List ℕ} {buffers : List (List ℕ)} {squares zones : ℕ} → Keeps (both t t′) (event (searching p b) buffers (searchedIs (Searched.Found squares zones))) → (answer : ScoringOf) → Keeps (both t t″) (event (askScoring p) [] (scoringIs answer)) → scoringIs answer ≡ accept (numbers (bit (ltb 0 zones) ∷ levels (townOf t) p ∷ []))
+unfolding meaning first
+scoring-search {t} sound {p} {b} {buffers} {squares} {zones} found answer told = by-refusal (bars t (searching p b))
+    (λ none.
+    let h = clear (means t (searching p b) .checks) refl none in
+    let clear-too : bars t (askScoring p) ≡ 0 = rw (h .0, h .1 .0) in
+    let many : zones ≡ length (zonesAt (townOf t) p) = ap (λ (x : Event). zonesTold (x .result .answer)) (found .does none true sound .0) ∙ ap (λ (i : ℕ). zonesTold (answered (searching p b) i)) none in
+    ap (λ (x : Event). x .result .answer) (told .does clear-too true sound .0) ∙ ap (answered (askScoring p)) clear-too ∙ ap (λ (n : ℕ). accept (numbers (bit (ltb 0 n) ∷ levels (townOf t) p ∷ []))) (sym many))
+    (λ f. let d : _≡_ {A = Answer Values} (searchedIs (Searched.Found squares zones)) (refuse (bars t (searching p b))) = ap (λ (x : Event). x .result .answer) (found .refuses f .0) in let n : _≡_ {A = ℕ} 0 1 = cc in absurd (omega arith))
+  where
+    answered : Call → ℕ → Answer Values
+    answered call i = result i (means t call .writes) (means t call .gives true) .answer
+
+    zonesTold : Answer Values → ℕ
+    zonesTold (refuse n) = 0
+    zonesTold (accept (numbers l)) = getD l 1 0
+    zonesTold (accept (spot q)) = 0
 
 -- ---- histories
 

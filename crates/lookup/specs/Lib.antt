@@ -1,3 +1,4 @@
 pub mod Looks
 pub mod LookLaws
+pub mod ClimbLaws
 pub mod SpotLaws

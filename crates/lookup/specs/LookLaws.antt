@@ -39,15 +39,21 @@ module _ {s : Shape} {x y : ℕ} (map : OnMap s x y) where
   up-first : {n p : ℕ} → Below (number s (s .k) x y) (squaresOn s (s .k)) n → Below (place s (s .k) n) (squares s) p → Next s x y p 0
   up-first h w l = let e : s .k - 0 ≡ s .k = omega arith in w .is ∙ ap (place s (s .k)) (h .is) ∙ ap (λ (i : ℕ). place s i (number s i x y)) (sym e)
 
-  up-next : {p′ : ℕ} (p up : ℕ) → Next s x y p up → p′ ≡ parentOf s p → Next s x y p′ (up + 1)
-  up-next p up f e u =
-      let i = s .k - (up + 1) in
-      let k : s .k - up ≡ suc i = omega arith in
-      e ∙ ap (parentOf s) (f (omega arith) ∙ ap (λ (j : ℕ). place s j (number s j x y)) k) ∙ place-parent s i (number s (suc i) x y) ∙ ap (place s i) (number-parent s i x y (omega arith))
+  -- the parent of the cell's square has the place of its square one level up
+  pub level-up : (i : ℕ) {p p′ : ℕ} → suc i ≤ s .k → p ≡ place s (suc i) (number s (suc i) x y) → p′ ≡ parentOf s p → p′ ≡ place s i (number s i x y)
+  level-up i h at e = e ∙ ap (parentOf s) at ∙ place-parent s i (number s (suc i) x y) ∙ ap (place s i) (number-parent s i x y h)
 
   -- it has a start after it
+  pub level-start : (i : ℕ) {p many : ℕ} → i ≤ s .k → p ≡ place s i (number s i x y) → many ≡ squares s + 1 → p + 1 < many
+  level-start i h at e = omega (arith, at, place-below s i (number s i x y) h (number-below s i x y h (map .column) (map .row)))
+
+  up-next : {p′ : ℕ} (p up : ℕ) → Next s x y p up → p′ ≡ parentOf s p → Next s x y p′ (up + 1)
+  up-next p up f e u =
+      let k : s .k - up ≡ suc (s .k - (up + 1)) = omega arith in
+      level-up (s .k - (up + 1)) (omega arith) (f (omega arith) ∙ ap (λ (j : ℕ). place s j (number s j x y)) k) e
+
   up-start : {many : ℕ} (p up : ℕ) → Next s x y p up → up ≤ s .k → many ≡ squares s + 1 → p + 1 < many
-  up-start p up f h e = omega (arith, f h, place-below s (s .k - up) (number s (s .k - up) x y) (omega arith) (number-below s (s .k - up) x y (omega arith) (map .column) (map .row)))
+  up-start p up f h e = level-start (s .k - up) (omega arith) (f h) e
 
   -- the zones of one square more
   up-front : (f : ℕ → Bool) (starts entries : List ℕ) {b b′ b″ : List ℕ} (p up : ℕ) {m r : ℕ} → Next s x y p up → up ≤ s .k → Front b b′ m (lookedInto f s x y starts entries (length b) up) → Gathers f starts entries p b′ b″ m r → Front b b″ r (lookedInto f s x y starts entries (length b) (up + 1))

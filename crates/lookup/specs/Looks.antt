@@ -1,18 +1,24 @@
--- What is gathered from the squares of a cell, level by level from the unit cell up, on any tables.
+-- What is gathered from the squares of a cell, level by level from the unit cell up, and which has a zone first, on any tables.
 use Prim.Native.Nat.{ℕ, zero, suc, _+_, _-_, _*_, _≤_}
 use mathlib.Core.Path.{_≡_}
 use mathlib.Core.Bool.{Bool, true, false}
-use mathlib.Core.List.{List, []}
+use mathlib.Core.List.{List, [], _∷_}
 use lib.Ieee.{Float}
 use lib.ListN.{length}
+use Rattle.order.specs.Sums.{bit}
 use Rattle.order.specs.BufferLaws.{Front}
 use Rattle.squares.specs.declared.shape.Shape.{Shape}
 use Rattle.squares.specs.Squares.{number}
 use Rattle.squares.specs.DifferLaws.{Apart}
+use Rattle.squares.specs.Refusals.{accept}
 use Rattle.position.specs.Answer.{onTown, columnOf, rowOf}
+use Rattle.model.specs.declared.answers.ScoringOf.{ScoringOf}
+use Rattle.model.specs.Answers.{numbers, scoringIs}
+use Rattle.model.specs.Model.{climb}
+use Rattle.model.specs.ScoringLaws.{someTo}
 use Rattle.tables.specs.Tables.{placedIn, spotIn}
 use Rattle.tables.specs.Derived.{place}
-use Rattle.tables.specs.Runs.{run, gathered, only, any, outside}
+use Rattle.tables.specs.Runs.{listedAt, run, gathered, only, any, outside}
 use Rattle.lookup.specs.declared.looks.Looked.{Looked}
 use Rattle.lookup.specs.declared.looks.Crossed.{Crossed}
 
@@ -24,6 +30,13 @@ lookedInto f s x y starts entries room (suc m) = gathered room (only f (run star
 pub record Looks (s : Shape) (x y : ℕ) (starts entries b b′ : List ℕ) (r : Looked) : Type 0 where
   pub squares : r .squares ≡ s .k + 1
   pub found : Front b b′ (r .zones) (lookedInto any s x y starts entries (length b) (s .k + 1))
+
+-- the list of a cell's square on level i is not empty; the answer: whether that is so of one level, and how many are looked at
+abbrev pub listedOn : Shape → ℕ → ℕ → List ℕ → ℕ → Bool
+listedOn s x y starts i = listedAt starts (place s i (number s i x y))
+
+abbrev pub Climbs : Shape → ℕ → ℕ → List ℕ → ScoringOf → Type 0
+Climbs s x y starts r = scoringIs r ≡ accept (numbers (bit (someTo (listedOn s x y starts) (s .k)) ∷ climb (listedOn s x y starts) (s .k) ∷ []))
 
 -- from the cell (x, y) to (x′, y′): the zones of the new squares that do not hold the old cell, those of the old squares
 -- that do not hold the new one

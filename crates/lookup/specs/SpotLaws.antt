@@ -16,6 +16,10 @@ use Rattle.position.specs.Laws.{column-below, row-below, off-town, on-town}
 use Rattle.tables.specs.Tables.{Tables, shapeOf}
 use Rattle.tables.specs.Sizes.{Sized}
 
+-- what looking into the squares of a position's cell asks; of the cell at which it is found, below
+pub look-asks : (t : Tables) (p : Position) → Sized t → OnMap (shapeOf t) (columnOf (shapeOf t) p) (rowOf (shapeOf t) p) × (length (t .derived .starts) ≡ squares (shapeOf t) + 1)
+look-asks t p size = (record { shape = size .shape; column = column-below (shapeOf t) p (size .shape); row = row-below (shapeOf t) p (size .shape) }, size .lengths .starts)
+
 module _ (t : Tables) (p : Position) (size : Sized t) {s : Shape} {spot : Spot} (shape : s ≡ shapeOf t) (at : spot ≡ spotOn s p) where
   within : allowed (shapeOf t) ≡ true
   within = →allowed (shapeOf t) (size .shape)
@@ -29,6 +33,5 @@ module _ (t : Tables) (p : Position) (size : Sized t) {s : Shape} {spot : Spot} 
   pub spot-on : (x y : ℕ) → spot ≡ Spot.Cell x y → (onTown (shapeOf t) p ≡ true) × (columnOf (shapeOf t) p ≡ x) × (rowOf (shapeOf t) p ≡ y)
   spot-on x y e = on-town (shapeOf t) p x y within (spot-is ∙ e)
 
--- what looking into the squares of a position's cell asks
-pub look-asks : (t : Tables) (p : Position) → Sized t → OnMap (shapeOf t) (columnOf (shapeOf t) p) (rowOf (shapeOf t) p) × (length (t .derived .starts) ≡ squares (shapeOf t) + 1)
-look-asks t p size = (record { shape = size .shape; column = column-below (shapeOf t) p (size .shape); row = row-below (shapeOf t) p (size .shape) }, size .lengths .starts)
+  pub spot-asks : (x y : ℕ) → spot ≡ Spot.Cell x y → OnMap s x y × (length (t .derived .starts) ≡ squares s + 1)
+  spot-asks x y e = let at-cell = spot-on x y e in rw (shape, ← at-cell .1, ← at-cell .2) (look-asks t p size)

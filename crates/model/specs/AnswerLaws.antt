@@ -9,13 +9,14 @@ use Rattle.model.specs.declared.answers.Removed.{Removed}
 use Rattle.model.specs.declared.answers.Reported.{Reported}
 use Rattle.model.specs.declared.answers.Left.{Left}
 use Rattle.model.specs.declared.answers.Searched.{Searched}
+use Rattle.model.specs.declared.answers.ScoringOf.{ScoringOf}
 use Rattle.model.specs.declared.answers.RosterOf.{RosterOf}
 use Rattle.model.specs.declared.answers.CountOf.{CountOf}
 use Rattle.model.specs.declared.answers.HolderOf.{HolderOf}
 use Rattle.model.specs.declared.answers.Standing.{Standing}
 use Rattle.model.specs.declared.answers.WhereIs.{WhereIs}
 use Rattle.model.specs.declared.answers.SoundnessOf.{SoundnessOf}
-use Rattle.model.specs.Answers.{openedIs, addedIs, removedIs, reportedIs, leftIs, searchedIs, rosterIs, countIs, standingIs, holderIs, whereIs, soundnessIs}
+use Rattle.model.specs.Answers.{openedIs, addedIs, removedIs, reportedIs, leftIs, searchedIs, scoringIs, rosterIs, countIs, standingIs, holderIs, whereIs, soundnessIs}
 
 pub opened-same : (a b : Opened) → openedIs a ≡ openedIs b → a ≡ b
 opened-same (Opened.Refused n) (Opened.Refused m) e = cc
@@ -52,6 +53,17 @@ searched-same (Searched.Refused n) (Searched.Refused m) e = cc
 searched-same (Searched.Refused n) (Searched.Found s i) e = cc
 searched-same (Searched.Found s i) (Searched.Refused m) e = cc
 searched-same (Searched.Found s i) (Searched.Found t j) e = cc
+
+pub scoring-same : (a b : ScoringOf) → scoringIs a ≡ scoringIs b → a ≡ b
+scoring-same (ScoringOf.Refused n) (ScoringOf.Refused m) e = cc
+scoring-same (ScoringOf.Refused n) (ScoringOf.Yes i) e = cc
+scoring-same (ScoringOf.Refused n) (ScoringOf.No i) e = cc
+scoring-same (ScoringOf.Yes i) (ScoringOf.Refused m) e = cc
+scoring-same (ScoringOf.Yes i) (ScoringOf.Yes j) e = cc
+scoring-same (ScoringOf.Yes i) (ScoringOf.No j) e = cc
+scoring-same (ScoringOf.No i) (ScoringOf.Refused m) e = cc
+scoring-same (ScoringOf.No i) (ScoringOf.Yes j) e = cc
+scoring-same (ScoringOf.No i) (ScoringOf.No j) e = cc
 
 pub roster-same : (a b : RosterOf) → rosterIs a ≡ rosterIs b → a ≡ b
 roster-same (RosterOf.Refused n) (RosterOf.Refused m) e = cc

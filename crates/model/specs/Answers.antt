@@ -9,6 +9,7 @@ use Rattle.model.specs.declared.answers.Removed.{Removed}
 use Rattle.model.specs.declared.answers.Reported.{Reported}
 use Rattle.model.specs.declared.answers.Left.{Left}
 use Rattle.model.specs.declared.answers.Searched.{Searched}
+use Rattle.model.specs.declared.answers.ScoringOf.{ScoringOf}
 use Rattle.model.specs.declared.answers.RosterOf.{RosterOf}
 use Rattle.model.specs.declared.answers.CountOf.{CountOf}
 use Rattle.model.specs.declared.answers.HolderOf.{HolderOf}
@@ -48,6 +49,12 @@ leftIs (Left.Done squares left) = accept (numbers (squares ∷ left ∷ []))
 abbrev pub searchedIs : Searched → Answer Values
 searchedIs (Searched.Refused n) = refuse n
 searchedIs (Searched.Found squares zones) = accept (numbers (squares ∷ zones ∷ []))
+
+-- yes is 1, no is 0; levels looked at
+abbrev pub scoringIs : ScoringOf → Answer Values
+scoringIs (ScoringOf.Refused n) = refuse n
+scoringIs (ScoringOf.Yes levels) = accept (numbers (1 ∷ levels ∷ []))
+scoringIs (ScoringOf.No levels) = accept (numbers (0 ∷ levels ∷ []))
 
 -- cars on the roster
 abbrev pub rosterIs : RosterOf → Answer Values

@@ -5,6 +5,7 @@ pub mod TeamLaws
 pub mod AnswerLaws
 pub mod ModelLaws
 pub mod RosterLaws
+pub mod ScoringLaws
 pub mod Whole
 pub mod Starred
 pub mod TeamCases

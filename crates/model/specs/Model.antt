@@ -1,6 +1,6 @@
 -- The model: what a town is, and what each call asks, changes, writes and answers, over its records alone.
 -- The numbers of the refusals, the letters and the words are document 01's.
-use Prim.Native.Nat.{ℕ, _+_, _*_}
+use Prim.Native.Nat.{ℕ, zero, suc, _+_, _*_}
 use mathlib.Core.Bool.{Bool, true, false, cond, not, _&&_}
 use mathlib.Core.List.{List, [], _∷_, _++_}
 use mathlib.Core.Option.{Option, none, some}
@@ -11,8 +11,8 @@ use Rattle.order.specs.Sums.{sum, bit}
 use Rattle.squares.specs.declared.shape.Shape.{Shape}
 use Rattle.squares.specs.declared.shape.Rect.{Rect}
 use Rattle.squares.specs.Shape.{shape, allowed, fits, mostZones, mostCars, mostEntries, holds}
-use Rattle.squares.specs.Squares.{differ}
-use Rattle.cuts.specs.Cut.{cut}
+use Rattle.squares.specs.Squares.{number, differ}
+use Rattle.cuts.specs.Cut.{inCut, cut}
 use Rattle.squares.specs.Refusals.{Bar, first, Answer, refuse, accept, Result, Write, refusing, result}
 use Rattle.position.specs.declared.Position.{Position}
 use Rattle.position.specs.Answer.{onTown, columnOf, rowOf}
@@ -100,6 +100,22 @@ abbrev pub looked : Shape → Option Car → Position → ℕ
 looked s none p = s .k + 1
 looked s (some a) p = 2 * length (differ s (columnOf s (a .position)) (rowOf s (a .position)) (columnOf s p) (rowOf s p))
 
+-- the zones whose cut has the square of a position's cell on level i: those on its list; a list that is not empty
+abbrev pub zonesOn : Town → Position → ℕ → List ℕ
+zonesOn m p i = let s = m .opening .shape in keep (λ (z : ℕ). there (m .zone z) (λ (r : Rect). inCut s r i (number s i (columnOf s p) (rowOf s p)))) (upto (m .opening .zones))
+
+abbrev pub filled : List ℕ → Bool
+filled l = ltb 0 (length l)
+
+-- how many levels are looked at from level i up to 0: to and with the first that has a mark, or all; for a position, from its
+-- unit cell on, to and with the first whose list is not empty
+unfoldable pub climb : (ℕ → Bool) → ℕ → ℕ
+climb marked zero = 1
+climb marked (suc i) = cond (marked (suc i)) 1 (1 + climb marked i)
+
+abbrev pub levels : Town → Position → ℕ
+levels m p = climb (λ (i : ℕ). filled (zonesOn m p i)) (m .opening .shape .k)
+
 -- standing entries: the squares of the standing zones' cuts
 abbrev pub cutSize : Shape → Option Rect → ℕ
 cutSize s none = 0
@@ -118,6 +134,7 @@ pub data Call : Type 0 where
   reporting : (c g : ℕ) (p : Position) (entered left : List ℕ) → Call
   leaving : (c : ℕ) (left : List ℕ) → Call
   searching : (p : Position) (found : List ℕ) → Call
+  askScoring : (p : Position) → Call
   askRoster : (z : ℕ) (inside : List ℕ) → Call
   askCount : (z : ℕ) → Call
   askHolder : (z : ℕ) → Call
@@ -147,6 +164,7 @@ changeOf (removing z) = zoneOff z
 changeOf (reporting c g p entered left) = carAt c (record { position = p; team = g })
 changeOf (leaving c left) = carOff c
 changeOf (searching p found) = nothing
+changeOf (askScoring p) = nothing
 changeOf (askRoster z inside) = nothing
 changeOf (askCount z) = nothing
 changeOf (askHolder z) = nothing
@@ -251,6 +269,13 @@ meaning l m (searching p found) = record {
   late = [];
   writes = (zonesAt m p, found) ∷ [];
   gives = λ sound. numbers ((m .opening .shape .k + 1) ∷ length (zonesAt m p) ∷ []);
+  trusts = gap;
+}
+meaning l m (askScoring p) = record {
+  checks = (l .own, 3) ∷ (onTown (m .opening .shape) p, 10) ∷ [];
+  late = [];
+  writes = [];
+  gives = λ sound. numbers (bit (filled (zonesAt m p)) ∷ levels m p ∷ []);
   trusts = gap;
 }
 meaning l m (askRoster z inside) = record {

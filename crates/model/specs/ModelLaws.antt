@@ -2,7 +2,7 @@
 use mathlib.Core.Path.{_≡_, refl}
 use mathlib.Core.Bool.{true, false}
 use Rattle.squares.specs.RefusalLaws.{numbered}
-use Rattle.model.specs.Model.{Town, Call, opening, adding, removing, reporting, leaving, searching, askRoster, askCount, askHolder, askWhere, askSoundness, Lengths, verdict, meaning}
+use Rattle.model.specs.Model.{Town, Call, opening, adding, removing, reporting, leaving, searching, askScoring, askRoster, askCount, askHolder, askWhere, askSoundness, Lengths, verdict, meaning}
 
 module _ (l : Lengths) (m : Town) where
   pub checks-numbered : (call : Call) → numbered (meaning l m call .checks) ≡ true
@@ -13,6 +13,7 @@ module _ (l : Lengths) (m : Town) where
   checks-numbered (reporting c g p entered left) = refl
   checks-numbered (leaving c left) = refl
   checks-numbered (searching p found) = refl
+  checks-numbered (askScoring p) = refl
   checks-numbered (askRoster z inside) = refl
   checks-numbered (askCount z) = refl
   checks-numbered (askHolder z) = refl
@@ -27,6 +28,7 @@ module _ (l : Lengths) (m : Town) where
   steady (reporting c g p entered left) f = refl
   steady (leaving c left) f = refl
   steady (searching p found) f = refl
+  steady (askScoring p) f = refl
   steady (askRoster z inside) f = refl
   steady (askCount z) f = refl
   steady (askHolder z) f = refl

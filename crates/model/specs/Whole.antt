@@ -17,7 +17,7 @@ use Rattle.position.specs.declared.Position.{Position}
 use Rattle.position.specs.Cell.{whole, inRange, onMap, cellOf}
 use Rattle.position.specs.Answer.{onTown, columnOf, rowOf}
 use Rattle.model.specs.Answers.{Values, numbers}
-use Rattle.model.specs.Model.{Opening, Town, nowhere, Call, opening, adding, removing, reporting, leaving, askRoster, askCount, change, after, Lengths, meaning, outcome}
+use Rattle.model.specs.Model.{Opening, Town, nowhere, Call, opening, adding, removing, reporting, leaving, askRoster, askCount, askScoring, climb, change, after, Lengths, meaning, outcome}
 
 -- the log's capacities; tables with the lengths of the town
 unfoldable pub asked : Opening
@@ -124,6 +124,13 @@ end-answers = refl
 pub count-answers : Answers added (askCount 1) [] (accept (numbers (0 ∷ []))) × Answers moved (askCount 1) [] (accept (numbers (1 ∷ []))) × Answers left (askCount 1) [] (accept (numbers (0 ∷ []))) × Answers removed (askCount 1) [] (refuse 7) × Answers opened (askCount 16) [] (refuse 4)
 unfolding asked rect at next opened added entered moved barred left removed again meaning first keep span sum onTown columnOf rowOf onMap inRange whole cellOf ofBits toBits isNan number interleave cutTo inCut inside cornerX cornerY evens
 count-answers = (refl, refl, refl, refl, refl)
+
+-- ---- whether a zone holds a position, and the levels looked at: its unit cell is in the cut, its square on level 1, its block;
+-- none of them, and none once the zone is removed; a position past the east wall
+
+pub scoring-answers : Answers added (askScoring near) [] (accept (numbers (1 ∷ 1 ∷ []))) × Answers added (askScoring (at 0x40C0_0000 0x4000_0000)) [] (accept (numbers (1 ∷ 2 ∷ []))) × Answers added (askScoring far) [] (accept (numbers (1 ∷ 3 ∷ []))) × Answers added (askScoring (at 0 0)) [] (accept (numbers (0 ∷ 3 ∷ []))) × Answers removed (askScoring far) [] (accept (numbers (0 ∷ 3 ∷ []))) × Answers added (askScoring (at 0x4180_0001 0)) [] (refuse 10)
+unfolding asked rect at next opened added entered moved barred left removed again meaning first keep span sum climb onTown columnOf rowOf onMap inRange whole cellOf ofBits toBits isNan number interleave cutTo inCut inside cornerX cornerY evens
+scoring-answers = (refl, refl, refl, refl, refl, refl)
 
 -- ---- and what a removal and another open leave
 

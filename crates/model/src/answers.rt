@@ -35,6 +35,13 @@ pub enum Searched {
     Found(u32, usize),
 }
 
+// Whether a zone holds a position, and how many levels were looked at.
+pub enum ScoringOf {
+    Refused(u32),
+    Yes(u32),
+    No(u32),
+}
+
 // How many cars of a roster were written.
 pub enum RosterOf {
     Refused(u32),

@@ -9,6 +9,7 @@ pub use answers::Opened;
 pub use answers::Removed;
 pub use answers::Reported;
 pub use answers::RosterOf;
+pub use answers::ScoringOf;
 pub use answers::Searched;
 pub use answers::SoundnessOf;
 pub use answers::Standing;

@@ -84,6 +84,21 @@ unfolding keep
 keep-none p [] h = refl
 keep-none p (x ∷ l) h = rw (h x (List·Memᴰ·head refl)) (keep-none p l (λ y m. h y (List·Memᴰ·tail m)))
 
+-- one that has it is kept, and what is kept has it
+pub keep-some : (p : ℕ → Bool) (l : List ℕ) (x : ℕ) → List·Memᴰ x l → p x ≡ true → 0 < length (keep p l)
+keep-some p l x m e = member-counts (keep p l) (→keep p l x m e)
+  where
+    member-counts : (k : List ℕ) → List·Memᴰ x k → 0 < length k
+    member-counts [] n = absurd (List·Memᴰ·not-nil n)
+    member-counts (y ∷ k) n = omega arith
+
+pub some-kept : (p : ℕ → Bool) (l : List ℕ) → 0 < length (keep p l) → (x : ℕ) × List·Memᴰ x l × (p x ≡ true)
+some-kept p l h = go (keep p l) (keep→ p l) h
+  where
+    go : (k : List ℕ) → ((x : ℕ) → List·Memᴰ x k → List·Memᴰ x l × (p x ≡ true)) → 0 < length k → (x : ℕ) × List·Memᴰ x l × (p x ≡ true)
+    go [] all g = absurd (omega arith)
+    go (y ∷ k) all g = let a = all y (List·Memᴰ·head refl) in (y, a .0, a .1)
+
 pub keep-all : (p : ℕ → Bool) (l : List ℕ) → ((x : ℕ) → List·Memᴰ x l → p x ≡ true) → keep p l ≡ l
 unfolding keep
 keep-all p [] h = refl

@@ -12,13 +12,14 @@ use Rattle.model.specs.declared.answers.Removed.{Removed}
 use Rattle.model.specs.declared.answers.Reported.{Reported}
 use Rattle.model.specs.declared.answers.Left.{Left}
 use Rattle.model.specs.declared.answers.Searched.{Searched}
+use Rattle.model.specs.declared.answers.ScoringOf.{ScoringOf}
 use Rattle.model.specs.declared.answers.RosterOf.{RosterOf}
 use Rattle.model.specs.declared.answers.CountOf.{CountOf}
 use Rattle.model.specs.declared.answers.HolderOf.{HolderOf}
 use Rattle.model.specs.declared.answers.WhereIs.{WhereIs}
 use Rattle.model.specs.declared.answers.SoundnessOf.{SoundnessOf}
-use Rattle.model.specs.Answers.{Values, openedIs, addedIs, removedIs, reportedIs, leftIs, searchedIs, rosterIs, countIs, holderIs, whereIs, soundnessIs}
-use Rattle.model.specs.Model.{Opening, Call, opening, adding, removing, reporting, leaving, searching, askRoster, askCount, askHolder, askWhere, askSoundness, Event}
+use Rattle.model.specs.Answers.{Values, openedIs, addedIs, removedIs, reportedIs, leftIs, searchedIs, scoringIs, rosterIs, countIs, holderIs, whereIs, soundnessIs}
+use Rattle.model.specs.Model.{Opening, Call, opening, adding, removing, reporting, leaving, searching, askScoring, askRoster, askCount, askHolder, askWhere, askSoundness, Event}
 use Rattle.tables.specs.Lent.{Slice}
 
 abbrev pub event : Call → List (List ℕ) → Answer Values → Event
@@ -45,6 +46,9 @@ leftMap c left answer = event (leaving c (now (left .entry))) (now (left .exit) 
 
 abbrev pub searched : Position → Slice ℕ → Searched → Event
 searched p found answer = event (searching p (now (found .entry))) (now (found .exit) ∷ []) (searchedIs answer)
+
+abbrev pub scoringTold : Position → ScoringOf → Event
+scoringTold p answer = event (askScoring p) [] (scoringIs answer)
 
 abbrev pub rosterTold : ℕ → Slice ℕ → RosterOf → Event
 rosterTold z inside answer = event (askRoster z (now (inside .entry))) (now (inside .exit) ∷ []) (rosterIs answer)

@@ -1,3 +1,4 @@
 pub mod SearchLaws
+pub mod ScoringLaws
 pub mod ReadLaws
 pub mod SoundnessLaws

@@ -31,7 +31,7 @@ use Rattle.promises.specs.PromiseLaws.{keeps-done}
 use Rattle.lookup.specs.declared.looks.Looked.{Looked}
 use Rattle.lookup.specs.Looks.{Looks}
 use Rattle.lookup.specs.LookLaws.{looked-holds}
-use Rattle.lookup.specs.SpotLaws.{spot-off, spot-on, look-asks}
+use Rattle.lookup.specs.SpotLaws.{spot-off, spot-on, spot-asks}
 
 pub record Searchable (t : Tables) (p : Position) (b : List ℕ) : Type 0 where
   pub none : bars t (searching p b) ≡ 0
@@ -54,7 +54,7 @@ module _ {t : Tables} {p : Position} {b : List ℕ} (ok : Searchable t p b) {s :
     cell = spot-on t p (ok .size) shape at x y e
 
     pub search-asks : OnMap s x y × (length (t .derived .starts) ≡ squares s + 1)
-    search-asks = rw (shape, ← cell .1, ← cell .2) (look-asks t p (ok .size))
+    search-asks = spot-asks t p (ok .size) shape at x y e
 
     pub search-kept : {b′ : List ℕ} {r : Looked} → Looks s x y (t .derived .starts) (t .derived .entries) b b′ r → Keeps (both t t) (event (searching p b) (b′ ∷ []) (searchedIs (Searched.Found (r .squares) (r .zones))))
     unfolding meaning first zoneHolds

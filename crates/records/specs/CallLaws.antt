@@ -16,7 +16,7 @@ use Rattle.cuts.specs.Cut.{cut}
 use Rattle.squares.specs.Refusals.{Bar, Write, first, refuse, result}
 use Rattle.squares.specs.RefusalLaws.{before, clear}
 use Rattle.model.specs.Answers.{Values}
-use Rattle.model.specs.Model.{Town, entriesUsed, Call, opening, adding, removing, reporting, leaving, searching, askRoster, askCount, askHolder, askWhere, askSoundness, Lengths, Meaning, meaning, barred, refusal, outcome}
+use Rattle.model.specs.Model.{Town, entriesUsed, Call, opening, adding, removing, reporting, leaving, searching, askScoring, askRoster, askCount, askHolder, askWhere, askSoundness, Lengths, Meaning, meaning, barred, refusal, outcome}
 use Rattle.tables.specs.Tables.{Tables, shapeOf, townOf, carRoom, entryRoom}
 use Rattle.promises.specs.Promise.{lengthsIn}
 use Rattle.promises.specs.PromiseLaws.{outcomeIn}
@@ -35,6 +35,7 @@ asksTown (removing z) = true
 asksTown (reporting c g p entered left) = true
 asksTown (leaving c left) = true
 asksTown (searching p found) = true
+asksTown (askScoring p) = true
 asksTown (askRoster z inside) = true
 asksTown (askCount z) = true
 asksTown (askHolder z) = true
@@ -51,6 +52,7 @@ module _ (m : Town) where
   closed-bars l (reporting c g p entered left) town e = rw e
   closed-bars l (leaving c left) town e = rw e
   closed-bars l (searching p found) town e = rw e
+  closed-bars l (askScoring p) town e = rw e
   closed-bars l (askRoster z inside) town e = rw e
   closed-bars l (askCount z) town e = rw e
   closed-bars l (askHolder z) town e = rw e
@@ -81,6 +83,7 @@ module _ (m : Town) where
   own-alone l l′ (reporting c g p entered left) town e = rw e
   own-alone l l′ (leaving c left) town e = rw e
   own-alone l l′ (searching p found) town e = rw e
+  own-alone l l′ (askScoring p) town e = rw e
   own-alone l l′ (askRoster z inside) town e = rw e
   own-alone l l′ (askCount z) town e = rw e
   own-alone l l′ (askHolder z) town e = rw e

@@ -19,7 +19,7 @@ use Rattle.squares.specs.RefusalLaws.{stops, clear}
 use Rattle.position.specs.declared.Position.{Position}
 use Rattle.position.specs.Answer.{onTown}
 use Rattle.model.specs.Answers.{Values}
-use Rattle.model.specs.Model.{Town, known, roster, zonesAt, zonesOf, zonesEntered, zonesLeft, looked, teamed, Call, opening, adding, removing, reporting, leaving, searching, askRoster, askCount, askHolder, askWhere, askSoundness, zoneOn, changeOf, changeBy, after, Meaning, meaning}
+use Rattle.model.specs.Model.{Town, known, roster, zonesAt, zonesOf, zonesEntered, zonesLeft, looked, teamed, Call, opening, adding, removing, reporting, leaving, searching, askScoring, askRoster, askCount, askHolder, askWhere, askSoundness, zoneOn, changeOf, changeBy, after, Meaning, meaning}
 use Rattle.line.specs.declared.records.Record.{Record}
 use Rattle.line.specs.declared.records.Record.the-variants.{Bad, Open, Add, Remove, Report, Leave, Search, Roster}
 use Rattle.print.specs.Text.{digits, number, members, parts}
@@ -66,6 +66,7 @@ module _ (m : Town) where
   tests-apart (reporting c g p entered left) = refl
   tests-apart (leaving c left) = refl
   tests-apart (searching p found) = refl
+  tests-apart (askScoring p) = refl
   tests-apart (askRoster z inside) = refl
   tests-apart (askCount z) = refl
   tests-apart (askHolder z) = refl
@@ -147,6 +148,7 @@ module _ (m : Town) (h : Proper m) where
   proper-after (reporting c g p entered left) e = h
   proper-after (leaving c left) e = h
   proper-after (searching p found) e = h
+  proper-after (askScoring p) e = h
   proper-after (askRoster z inside) e = h
   proper-after (askCount z) e = h
   proper-after (askHolder z) e = h

@@ -8,6 +8,7 @@ use native.Mathlib.Omega.{arith}
 use lib.Dec.{leb, eqb}
 use lib.ListN.{length, getD, set}
 use borrow.Author.Tests.{leb-true, ltb-true}
+use Rattle.squares.specs.declared.shape.Rect.{Rect}
 use Rattle.squares.specs.Shape.{holds}
 use Rattle.position.specs.Answer.{columnOf, rowOf}
 use Rattle.model.specs.Teams.{lastTeam}
@@ -69,10 +70,14 @@ module _ (t : Tables) where
   unfolding placed
   slot-team c e f = omega (arith, ltb-true 0 (getD (t .records .cars) c 0) e, leb-true (teamOf t c) lastTeam f)
 
-  -- a zone that stands, and whose rectangle holds the cell
+  -- a zone that stands, and whose rectangle passes a test; holds a cell
+  pub zone-there : (z : ℕ) (test : Rect → Bool) → there (zoneIn t z) test ≡ (stands t z && test (rectOf t z))
+  unfolding zoneIn
+  zone-there z test = there-if (stands t z) (rectOf t z) test
+
   pub zone-holds : (z x y : ℕ) → zoneHolds t z x y ≡ (stands t z && holds (rectOf t z) x y)
-  unfolding zoneHolds zoneIn
-  zone-holds z x y = there-if (stands t z) (rectOf t z) (λ r. holds r x y)
+  unfolding zoneHolds
+  zone-holds z x y = zone-there z (λ r. holds r x y)
 
   -- a car on the map, whose cell the zone holds
   pub roster-has : (z c : ℕ) → rosterHas t z c ≡ (placed t c && zoneHolds t z (columnOf (shapeOf t) (spotOf t c)) (rowOf (shapeOf t) (spotOf t c)))

@@ -6,25 +6,30 @@ use mathlib.Core.Logic.{⊎-elim}
 use mathlib.Core.List.{List, _++_, append-assoc}
 use native.Mathlib.Omega.{arith}
 use native.Mathlib.Nat.{zero-add, add-mul}
+use lib.Dec.{ltb}
 use lib.Arith.{digits-div, digits-mod}
 use lib.ListN.{length, getD, take, drop, replicate, length-append, List·getD-eq-default}
 use lib.Seq.{take-at, drop-at}
-use borrow.Author.Tests.{le-ltb}
+use borrow.Author.Tests.{le-ltb, lt-ltb, ltb-true}
 use Rattle.order.specs.Order.{span, upto, keep}
-use Rattle.order.specs.TestLaws.{lt-or-le, true-or-false, true-not-false, and→}
-use Rattle.order.specs.KeepLaws.{span-add, keep-append}
+use Rattle.order.specs.TestLaws.{lt-or-le, true-or-false, true-not-false, and→, both-ways}
+use Rattle.order.specs.KeepLaws.{span-add, span→, →span, keep-append, keep-some, some-kept}
+use Rattle.squares.specs.declared.shape.Rect.{Rect}
 use Rattle.squares.specs.Shape.{width, height, holds}
 use Rattle.squares.specs.Squares.{squares, squaresOn, number}
 use Rattle.cuts.specs.Cut.{inCut}
+use Rattle.model.specs.Model.{there, filled}
 use Rattle.squares.specs.SquareLaws.{number-below}
 use Rattle.cuts.specs.CutLaws.{one-level, no-level}
-use Rattle.tables.specs.Tables.{Tables, shapeOf, zoneRoom, entryRoom, rectOf, stands, zoneHolds}
+use Rattle.tables.specs.Tables.{Tables, shapeOf, zoneRoom, entryRoom, rectOf, stands, zoneIn, zoneHolds}
 use Rattle.tables.specs.Sizes.{Sized}
 use Rattle.tables.specs.Derived.{place, on, keysTo, used, free}
 use Rattle.tables.specs.Sound.{Sound}
-use Rattle.tables.specs.PlaceLaws.{level-place, number-place}
-use Rattle.tables.specs.RecordLaws.{starts-fresh, entries-fresh, zone-holds}
+use Rattle.tables.specs.PlaceLaws.{place-below, level-place, number-place}
+use Rattle.tables.specs.RecordLaws.{starts-fresh, entries-fresh, zone-there, zone-holds}
 use Rattle.tables.specs.RowLaws.{mapped-at}
+use Rattle.tables.specs.CheckLaws.{size-of}
+use Rattle.tables.specs.Runs.{listedAt}
 
 -- the keys of the square at place p
 abbrev pub keysAt : Tables → ℕ → List ℕ
@@ -104,3 +109,40 @@ stands-below t z h e = ⊎-elim (λ (l : z < zoneRoom t). l) (λ (l : zoneRoom t
 pub zone-below : (t : Tables) (key : ℕ) → Sized t → on t key ≡ true → key % 256 < zoneRoom t
 unfolding on
 zone-below t key h e = stands-below t (key % 256) h (and→ (stands t (key % 256)) _ e .0)
+
+-- ---- whether a square has a zone on its list
+
+module _ {t : Tables} (sound : Sound t) where
+  listed-keys : (p : ℕ) → p < squares (shapeOf t) → listedAt (t .derived .starts) p ≡ filled (keysAt t p)
+  unfolding listedAt
+  listed-keys p h = rw (start-at sound p (omega arith), start-at sound (p + 1) (omega arith), keys-more t p, length-append (keysTo t p) (keysAt t p)) (more (length (keysTo t p)) (length (keysAt t p)))
+    where
+      more : (a b : ℕ) → ltb a (a + b) ≡ ltb 0 b
+      more a b = both-ways (ltb a (a + b)) (ltb 0 b) (λ e. lt-ltb 0 b (omega (arith, ltb-true a (a + b) e))) (λ e. lt-ltb a (a + b) (omega (arith, ltb-true 0 b e)))
+
+  -- its list has one exactly where it is in the cut of a standing zone
+  module _ (i n : ℕ) (level : i ≤ shapeOf t .k) (below : n < squaresOn (shapeOf t) i) where
+    abbrev p : ℕ
+    p = place (shapeOf t) i n
+
+    abbrev taken : Rect → Bool
+    taken r = inCut (shapeOf t) r i n
+
+    on-taken : (z : ℕ) → z < 256 → on t (p * 256 + z) ≡ there (zoneIn t z) taken
+    on-taken z h = on-place t i n z h level below ∙ sym (zone-there t z taken)
+
+    pub listed-cut : listedAt (t .derived .starts) p ≡ filled (keep (λ (z : ℕ). there (zoneIn t z) taken) (upto (zoneRoom t)))
+    listed-cut = listed-keys p (place-below (shapeOf t) i n level below) ∙ both-ways (filled (keysAt t p)) (filled (keep (λ (z : ℕ). there (zoneIn t z) taken) (upto (zoneRoom t))))
+        (λ (e : filled (keysAt t p) ≡ true).
+        let a = some-kept (on t) (span (p * 256) 256) (ltb-true 0 _ e) in
+        let h = span→ (p * 256) 256 (a .0) (a .1) in
+        let z = a .0 - p * 256 in
+        let k : a .0 ≡ p * 256 + z = omega (arith, h .0) in
+        let few : z < 256 = omega (arith, h .0, h .1) in
+        let q = ap (on t) (sym k) ∙ a .2 in
+        let room = rw (digits-mod p few) at (zone-below t (p * 256 + z) (size-of sound) q) in
+        lt-ltb 0 _ (keep-some (λ (v : ℕ). there (zoneIn t v) taken) (upto (zoneRoom t)) z (→span 0 (zoneRoom t) z (omega arith) (omega (arith, room))) (sym (on-taken z few) ∙ q)))
+        (λ (e : filled (keep (λ (z : ℕ). there (zoneIn t z) taken) (upto (zoneRoom t))) ≡ true).
+        let a = some-kept (λ (z : ℕ). there (zoneIn t z) taken) (upto (zoneRoom t)) (ltb-true 0 _ e) in
+        let few : a .0 < 256 = omega (arith, span→ 0 (zoneRoom t) (a .0) (a .1), size-of sound .room .zones-few) in
+        lt-ltb 0 _ (keep-some (on t) (span (p * 256) 256) (p * 256 + a .0) (→span (p * 256) 256 (p * 256 + a .0) (omega arith) (omega arith)) (on-taken (a .0) few ∙ a .2)))

@@ -15,6 +15,10 @@ use Rattle.tables.specs.Tables.{rectIn}
 abbrev pub parentOf : Shape → ℕ → ℕ
 parentOf s p = (p - s .P * s .Q) / 4
 
+-- the list of the square at a place has a zone: the next start is higher
+unfoldable pub listedAt : List ℕ → ℕ → Bool
+listedAt starts p = ltb (getD starts p 0) (getD starts (p + 1) 0)
+
 -- the entries from one start up to the next, or none where the next start lies past the entries' end
 unfoldable pub run : List ℕ → List ℕ → ℕ → List ℕ
 run starts entries p = cond (leb (getD starts (p + 1) 0) (length entries)) (take (getD starts (p + 1) 0 - getD starts p 0) (drop (getD starts p 0) entries)) []

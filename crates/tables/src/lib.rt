@@ -30,6 +30,7 @@ pub use records::zone_room;
 pub use rosters::list_cars;
 pub use runs::gather;
 pub use runs::gather_outside;
+pub use runs::listed;
 pub use tallies::TALLY;
 pub use tallies::count_in;
 pub use tallies::standing_in;

@@ -3,7 +3,15 @@ use crate::records::rect_in;
 ghost use Prim.Native.Nat.{_+_, _<_, _≤_};
 ghost use mathlib.Core.Path.{_≡_};
 ghost use lib.ListN.{length};
-ghost use Rattle.tables.specs.Runs.{any, outside, PutIf, Gathers};
+ghost use Rattle.tables.specs.Runs.{listedAt, any, outside, PutIf, Gathers};
+
+// Whether the list of the square at place p has a zone.
+pub fn listed(starts: &[u32], p: usize) -> bool
+    requires { ⌜ p + 1 < length (now starts) ⌝ }
+    ensures { λ r. ⌜ r ≡ listedAt (now (starts .entry)) p ⌝ }
+{
+    starts[p] < starts[p + 1]
+}
 
 // The zones on the list of the square at place p are put into the rising front of `out`, its first n numbers.
 // Answers how many there are now. A run that passes the end of the entries adds nothing.

@@ -15,13 +15,14 @@ use model::Opened;
 use model::Removed;
 use model::Reported;
 use model::RosterOf;
+use model::ScoringOf;
 use model::Searched;
 use model::SoundnessOf;
 use model::WhereIs;
 ghost use mathlib.Core.List.{[]};
 ghost use Rattle.squares.specs.Refusals.{fields};
 ghost use Rattle.grid.specs.Promises.{numberIs, squareIs, cutIs};
-ghost use Rattle.model.specs.Answers.{openedIs, addedIs, removedIs, reportedIs, leftIs, searchedIs, rosterIs, countIs, holderIs, whereIs, soundnessIs};
+ghost use Rattle.model.specs.Answers.{openedIs, addedIs, removedIs, reportedIs, leftIs, searchedIs, scoringIs, rosterIs, countIs, holderIs, whereIs, soundnessIs};
 ghost use Rattle.values.specs.Promises.{said, Tells, Points};
 
 pub fn tell_number(a: NumberOf, values: &mut [u32]) -> u32
@@ -108,6 +109,16 @@ pub fn tell_searched(a: Searched, values: &mut [u32]) -> u32
     match a {
         Searched::Refused(n) => tell_two(n, 0, 0, values),
         Searched::Found(squares, zones) => tell_two(0, squares as usize, zones, values),
+    }
+}
+
+pub fn tell_scoring(a: ScoringOf, values: &mut [u32]) -> u32
+    ensures { λ r. ⌜ Tells (said 2 (scoringIs a)) (now (values .entry)) (now (values .exit)) r ⌝ }
+{
+    match a {
+        ScoringOf::Refused(n) => tell_two(n, 0, 0, values),
+        ScoringOf::Yes(levels) => tell_two(0, 1, levels as usize, values),
+        ScoringOf::No(levels) => tell_two(0, 0, levels as usize, values),
     }
 }
 

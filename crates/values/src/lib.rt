@@ -12,6 +12,7 @@ pub use answers::tell_opened;
 pub use answers::tell_removed;
 pub use answers::tell_reported;
 pub use answers::tell_roster;
+pub use answers::tell_scoring;
 pub use answers::tell_searched;
 pub use answers::tell_soundness;
 pub use answers::tell_square;

@@ -40,7 +40,7 @@ fn main() {
             all.push(measure(plan, k, seed));
         }
     }
-    println!("{}\n\n{}\n{}", page::machine(), page::tables(&all), page::goals(&all));
+    println!("{}\n\n{}\n{}\n{}", page::machine(), page::tables(&all), page::goals(&all), page::scorings(&all));
     if to_docs {
         if let Err(error) = write(&all, seed) {
             eprintln!("docs/ was not written: {error}");

@@ -68,7 +68,7 @@ pub fn goals(all: &[Measured]) -> String {
         "| k | scan over library (at least 8) | library over by hand (at most 1.25) | add over report (below 100) | remove over report (below 100) | roster over count (at least 10) |\n|---|---|---|---|---|---|\n",
     );
     for one in all.iter().filter(|one| one.plan.name == "Large") {
-        let [report, _, _, add, remove, roster, _, count, _] = one.times;
+        let [report, _, _, add, remove, roster, _, count, ..] = one.times;
         let met = |ratio: f64, yes: bool| format!("{ratio:.2}, {}", if yes { "met" } else { "not met" });
         let (scan, hand) = (report[1] / report[0], report[0] / report[3]);
         let (add, remove) = (add[0] / report[0], remove[0] / report[0]);
@@ -82,6 +82,29 @@ pub fn goals(all: &[Measured]) -> String {
             met(add, add < 100.0),
             met(remove, remove < 100.0),
             met(pass, pass >= 10.0)
+        );
+    }
+    page
+}
+
+/// What a scoring costs beside a search, and beside a scan that ends at the first zone that holds the position.
+pub fn scorings(all: &[Measured]) -> String {
+    let mut page = String::from(
+        "| town | k | scoring, ns | search, ns | search over scoring | scan, ns | scan over scoring |\n|---|---|---|---|---|---|---|\n",
+    );
+    for one in all {
+        let [_, _, search, .., scoring] = one.times;
+        let [own, scan, ..] = scoring;
+        let _ = writeln!(
+            page,
+            "| {} | {} | {} | {} | {:.2} | {} | {:.2} |",
+            one.plan.name,
+            one.k,
+            number(own),
+            number(search[0]),
+            search[0] / own,
+            number(scan),
+            scan / own
         );
     }
     page
@@ -175,9 +198,15 @@ A report that changes the cell, on the large town, and what adds and removes cos
 roster, with 1,024 cars.
 
 {}
+## Scoring
+
+Whether any zone holds a position, beside the zones that do, and beside a scan that ends at the first zone that holds it.
+
+{}
 {}",
         machine(),
         goals(all),
+        scorings(all),
         tables(all).trim_end().to_owned() + "\n"
     )
 }

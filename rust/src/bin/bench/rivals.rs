@@ -9,6 +9,8 @@ pub trait Engine {
     /// The zones entered and left.
     fn report(&mut self, car: u32, at: Position) -> (&[u32], &[u32]);
     fn search(&mut self, at: Position) -> &[u32];
+    /// Whether any zone holds a position.
+    fn scores(&self, at: Position) -> bool;
     fn roster(&mut self, zone: u32) -> &[u32];
     /// How many cars are in a zone.
     fn count(&self, zone: u32) -> u32;
@@ -43,6 +45,10 @@ impl Engine for Library {
 
     fn search(&mut self, at: Position) -> &[u32] {
         self.0.search(at).expect(ACCEPTED).zones
+    }
+
+    fn scores(&self, at: Position) -> bool {
+        self.0.scoring(at).expect(ACCEPTED).scores
     }
 
     fn roster(&mut self, zone: u32) -> &[u32] {
@@ -259,6 +265,11 @@ impl Engine for Scan {
         &base.entered
     }
 
+    fn scores(&self, at: Position) -> bool {
+        let at = cell(at);
+        self.0.zones.iter().any(|r| holds(r, at))
+    }
+
     fn roster(&mut self, zone: u32) -> &[u32] {
         self.0.roster(zone)
     }
@@ -346,6 +357,12 @@ impl Engine for Cells {
         let list = unsafe { self.lists.get_unchecked((y * self.columns + x) as usize) };
         self.base.entered.extend(list.iter().map(|&zone| zone as u32));
         &self.base.entered
+    }
+
+    fn scores(&self, at: Position) -> bool {
+        let (x, y) = cell(at);
+        // SAFETY: a position on the map has a cell.
+        !unsafe { self.lists.get_unchecked((y * self.columns + x) as usize) }.is_empty()
     }
 
     fn roster(&mut self, zone: u32) -> &[u32] {
@@ -546,6 +563,19 @@ impl Engine for Squares {
         self.gather_all(cell(at), &mut found);
         self.base.entered = found;
         &self.base.entered
+    }
+
+    fn scores(&self, at: Position) -> bool {
+        let mut number = self.number(cell(at));
+        for level in (0..=self.shape.k as usize).rev() {
+            let place = (self.below[level] + number) as usize;
+            // SAFETY: places are below the count of squares.
+            if unsafe { self.starts.get_unchecked(place) != self.starts.get_unchecked(place + 1) } {
+                return true;
+            }
+            number >>= 2;
+        }
+        false
     }
 
     fn roster(&mut self, zone: u32) -> &[u32] {

@@ -21,7 +21,7 @@ pub const PLANS: [Plan; 2] = [
 ];
 
 /// The calls that are measured, in the order of the columns' values.
-pub const CALLS: [&str; 9] = [
+pub const CALLS: [&str; 10] = [
     "report, another cell",
     "report, nine of ten in the same cell",
     "search",
@@ -31,6 +31,7 @@ pub const CALLS: [&str; 9] = [
     "open",
     "count",
     "holder",
+    "scoring",
 ];
 
 pub const ENGINES: [&str; 4] = ["library", "scan", "cells", "by hand"];
@@ -184,6 +185,16 @@ fn searches(engine: &mut impl Engine, work: &Work, best: &mut Best) {
     }
 }
 
+fn scorings(engine: &impl Engine, work: &Work, best: &mut Best) {
+    for batch in work.spots.chunks(BATCH) {
+        let began = Instant::now();
+        for &at in batch {
+            black_box(engine.scores(at));
+        }
+        best.note(began, batch.len());
+    }
+}
+
 /// Each zone removed from the full town and added again.
 fn zones(engine: &mut impl Engine, work: &Work, adds: &mut Best, removes: &mut Best) {
     for &(zone, r) in &work.zones {
@@ -234,10 +245,11 @@ fn opens(engine: &mut impl Engine, work: &Work, best: &mut Best) {
 /// One round of all calls.
 fn round(engine: &mut impl Engine, work: &Work, best: &mut [Best; CALLS.len()]) {
     best.iter_mut().for_each(Best::again);
-    let [far, near, search, add, remove, roster, open, count, holder] = best;
+    let [far, near, search, add, remove, roster, open, count, holder, scoring] = best;
     reports(engine, work, &work.far, far);
     reports(engine, work, &work.near, near);
     searches(engine, work, search);
+    scorings(engine, work, scoring);
     zones(engine, work, add, remove);
     rosters(engine, work, roster);
     asks(work, count, |zone| engine.count(zone));
@@ -269,6 +281,9 @@ impl Engines {
             assert_eq!(answer, scan.search(at), "library and scan, a search");
             assert_eq!(answer, cells.search(at), "library and cells, a search");
             assert_eq!(answer, squares.search(at), "library and by hand, a search");
+            let some = !answer.is_empty();
+            let scores = [library.scores(at), scan.scores(at), cells.scores(at), squares.scores(at)];
+            assert_eq!(scores, [some; 4], "search and scoring");
         }
         for &(car, _) in &work.places {
             assert_eq!(library.0.where_is(car), Ok(scan.where_is(car)), "where a car is");

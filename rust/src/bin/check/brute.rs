@@ -293,6 +293,23 @@ impl Brute {
         done(vec![self.shape.k + 1, count(&found)], vec![found])
     }
 
+    /// Whether a standing zone's cut has the square of a level in which a cell lies.
+    fn in_a_cut(&self, level: u32, (x, y): Cell) -> bool {
+        let corner = |side: u32| (x - x % side, y - y % side);
+        let side = 1 << (self.shape.k - level);
+        let taken = |r: Rectangle| {
+            inside(r, corner(side), side) && (level == 0 || !inside(r, corner(2 * side), 2 * side))
+        };
+        self.zones.iter().flatten().any(|&r| taken(r))
+    }
+
+    fn scoring(&self, at: [u32; 2]) -> Answer {
+        let Some(at) = cell(self.shape, at) else { return refused(10) };
+        let k = self.shape.k;
+        let levels = (0..=k).find(|up| self.in_a_cut(k - up, at)).map_or(k + 1, |up| up + 1);
+        done(vec![!self.zones_at(at).is_empty() as u32, levels], vec![])
+    }
+
     fn list(&self, zone: u32, buffers: &[usize]) -> Answer {
         let r = match self.standing_zone(zone) {
             Ok(r) => r,
@@ -316,6 +333,7 @@ impl Brute {
             Call::Report { car, team, at } => self.report(car, team, at, buffers),
             Call::Leave { car } => self.leave(car, buffers),
             Call::Search { at } => self.search(at, buffers),
+            Call::Scoring { at } => self.scoring(at),
             Call::Roster { zone } => self.list(zone, buffers),
             Call::Count { zone } => match self.standing_zone(zone) {
                 Ok(_) => done(self.tally(zone)[..1].to_vec(), vec![]),
@@ -445,6 +463,18 @@ mod tests {
         assert_eq!(told, [refused(7), done(vec![1], vec![]), refused(4)]);
         let told = [0, 1, 2].map(|zone| town.answer(&Call::Holder { zone }, &[]));
         assert_eq!(told, [refused(7), done(vec![1, 0, 0, 0, 0, 0, 0, 0, 0], vec![]), refused(4)]);
+    }
+
+    #[test]
+    fn whether_a_position_scores() {
+        let mut town = Brute::new(TOWN, Capacities { zones: 2, cars: 1, entries: 64 });
+        town.apply(&Call::Add { zone: 1, r: Rectangle { a: 5, b: 2, w: 8, h: 12 } });
+        let mut told = |x, y| town.answer(&Call::Scoring { at: [half(x), half(y)] }, &[]);
+        assert_eq!([(5, 3), (6, 2), (10, 11)].map(|(x, y)| told(x, y).values), [[1, 1], [1, 2], [1, 3]]);
+        assert_eq!([told(4, 3), told(16, 3)], [done(vec![0, 3], vec![]), refused(10)]);
+        // a cell that two zones hold: the smaller square comes first
+        town.apply(&Call::Add { zone: 0, r: Rectangle { a: 10, b: 11, w: 1, h: 1 } });
+        assert_eq!(town.answer(&Call::Scoring { at: [half(10), half(11)] }, &[]).values, [1, 1]);
     }
 
     #[test]

@@ -13,6 +13,7 @@ pub enum Call {
     Report { car: u32, team: u32, at: [u32; 2] },
     Leave { car: u32 },
     Search { at: [u32; 2] },
+    Scoring { at: [u32; 2] },
     Roster { zone: u32 },
     Count { zone: u32 },
     Holder { zone: u32 },
@@ -39,13 +40,14 @@ const fn kind(name: &'static str, fields: usize, buffers: usize, refusals: &'sta
     Kind { name, fields, buffers, refusals }
 }
 
-pub const KINDS: [Kind; 15] = [
+pub const KINDS: [Kind; 16] = [
     kind("open", 0, 0, &[1, 2, 3]),
     kind("add", 2, 0, &[3, 4, 6, 9, 12]),
     kind("remove", 0, 0, &[3, 4, 7]),
     kind("report", 3, 2, &[3, 5, 15, 10, 11]),
     kind("leave", 2, 1, &[3, 5, 8, 11]),
     kind("search", 2, 1, &[3, 10, 11]),
+    kind("scoring", 2, 0, &[3, 10]),
     kind("roster", 1, 1, &[3, 4, 7, 11]),
     kind("count", 1, 0, &[3, 4, 7]),
     kind("holder", 9, 0, &[3, 4, 7]),
@@ -66,15 +68,16 @@ impl Call {
             Call::Report { .. } => 3,
             Call::Leave { .. } => 4,
             Call::Search { .. } => 5,
-            Call::Roster { .. } => 6,
-            Call::Count { .. } => 7,
-            Call::Holder { .. } => 8,
-            Call::Where { .. } => 9,
-            Call::Sound => 10,
-            Call::Lengths { .. } => 11,
-            Call::Number { .. } => 12,
-            Call::Square { .. } => 13,
-            Call::Cut { .. } => 14,
+            Call::Scoring { .. } => 6,
+            Call::Roster { .. } => 7,
+            Call::Count { .. } => 8,
+            Call::Holder { .. } => 9,
+            Call::Where { .. } => 10,
+            Call::Sound => 11,
+            Call::Lengths { .. } => 12,
+            Call::Number { .. } => 13,
+            Call::Square { .. } => 14,
+            Call::Cut { .. } => 15,
         }
     }
 
@@ -84,7 +87,7 @@ impl Call {
 
     /// Whether it is lent a town's tables, and asks what stands in them.
     pub fn asks_town(&self) -> bool {
-        (1..=10).contains(&self.index())
+        (1..=11).contains(&self.index())
     }
 
     /// Which tables it may change, in their order.
@@ -414,7 +417,12 @@ pub fn call(random: &mut Random, town: &Brute) -> Call {
         60..=64 => Call::Leave { car: any_below(random, town.room.cars) },
         65..=74 => {
             let car = random.below(town.room.cars);
-            Call::Search { at: position(random, s, town.cars[car as usize].map(|from| from.at)) }
+            let at = position(random, s, town.cars[car as usize].map(|from| from.at));
+            if random.once_in(2) {
+                Call::Search { at }
+            } else {
+                Call::Scoring { at }
+            }
         }
         75..=83 => {
             let zone = if random.once_in(3) { any_below(random, town.room.zones) } else { standing(random, town) };

@@ -328,6 +328,7 @@ pub fn drive(call: &Call, t: &mut Tables, buffers: &mut [Lent<u32>], values: &mu
             Call::Search { at } => {
                 read!(unwadegiro_search, t, float(at[0]), float(at[1]), out, out_len, told, told_len)
             }
+            Call::Scoring { at } => read!(unwadegiro_scoring, t, float(at[0]), float(at[1]), told, told_len),
             Call::Roster { zone } => read!(unwadegiro_roster, t, zone, out, out_len, told, told_len),
             Call::Count { zone } => read!(unwadegiro_count, t, zone, told, told_len),
             Call::Holder { zone } => read!(unwadegiro_holder, t, zone, told, told_len),

@@ -42,6 +42,8 @@ struct Check {
     teams: [u64; 3],
     // zones of sound tables that a team holds, that nobody holds by a tie, and with no car of a team from 1 on
     held: [u64; 3],
+    // positions of sound tables that score, by the levels looked at, and those that do not
+    scored: [u64; 7],
 }
 
 /// Says what was wrong, and ends.
@@ -71,6 +73,7 @@ impl Check {
             walls: [0; 4],
             teams: [0; 3],
             held: [0; 3],
+            scored: [0; 7],
         }
     }
 
@@ -195,12 +198,16 @@ impl Check {
         if matches!(call, Call::Where { .. }) && returned == 0 {
             self.count_nans(values.now());
         }
-        if let Call::Report { at, .. } | Call::Search { at } = call {
+        if let Call::Report { at, .. } | Call::Search { at } | Call::Scoring { at } = call {
             self.count_walls(at, returned);
         }
         match call {
             Call::Report { car, team, .. } if returned == 15 => self.count_team(car, team),
             Call::Holder { .. } if returned == 0 && self.state == State::Sound => self.count_held(&answer.values),
+            Call::Scoring { .. } if returned == 0 => {
+                let [yes, levels] = answer.values[..] else { unreachable!("two values") };
+                self.scored[if yes == 1 { levels as usize - 1 } else { 6 }] += 1;
+            }
             _ => {}
         }
     }
@@ -580,7 +587,9 @@ impl Check {
         println!("teams refused: above 7 {above}, not the car's {other}, of a car with one above 7 {stored}");
         let [team, tie, none] = self.held;
         println!("zones held by a team {team}; by nobody: a tie {tie}, no car of a team {none}");
-        let counts = [&self.sound_said[..], &self.nans, &self.walls, &self.teams, &self.held];
+        let [some @ .., none] = self.scored;
+        println!("positions that score, by the levels looked at, from 1 on: {some:?}; that do not: {none}");
+        let counts = [&self.sound_said[..], &self.nans, &self.walls, &self.teams, &self.held, &self.scored];
         all && counts.into_iter().flatten().all(|&times| times > 0)
     }
 }
