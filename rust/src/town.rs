@@ -398,7 +398,7 @@ impl Town {
     /// # let room = Capacities { zones: 2, cars: 8, entries: 64 };
     /// let mut town = Town::open(Shape { k: 2, p: 4, q: 4 }, room)?;
     /// town.add(0, Rectangle { a: 8, b: 8, w: 5, h: 4 })?;
-    /// // the cell (9, 9) lies in a block that the zone holds whole, the cell (12, 9) in a row of cells
+    /// // the cell (9, 9) lies in a block that the zone holds whole, the cell (12, 9) in a column of single cells
     /// assert_eq!(town.scoring(Position { x: 9.5, y: 9.5 })?, Scoring { scores: true, levels: 3 });
     /// assert_eq!(town.scoring(Position { x: 12.5, y: 9.5 })?, Scoring { scores: true, levels: 1 });
     /// assert!(!town.scoring(Position { x: 13.5, y: 9.5 })?.scores);

@@ -130,9 +130,12 @@ one-level s r x y g e =
         (⊎-elim (λ (l : i ≡ j). sym l) (λ (l : j < i). absurd (cut-highest s r i j x y h p l (cut-inside s r j (number s j x y) q))))
         (lt-or-eq-or-gt i j)
 
--- a cell outside is in the cut on none
+-- a cell whose square on some level is in the cut is a cell of the rectangle; one outside is in the cut on none
+pub level-holds : (s : Shape) (r : Rect) (i x y : ℕ) → i ≤ s .k → x < width s → inCut s r i (number s i x y) ≡ true → holds r x y ≡ true
+level-holds s r i x y h g e = sym (unit-holds s r x y g) ∙ inside-below s r i (s .k) x y h (omega arith) (cut-inside s r i (number s i x y) e)
+
 pub no-level : (s : Shape) (r : Rect) (i x y : ℕ) → i ≤ s .k → x < width s → holds r x y ≡ false → inCut s r i (number s i x y) ≡ false
-no-level s r i x y h g e = fails (inCut s r i (number s i x y)) (λ f. true-not-false (holds r x y) (sym (unit-holds s r x y g) ∙ inside-below s r i (s .k) x y h (omega arith) (cut-inside s r i (number s i x y) f)) e)
+no-level s r i x y h g e = fails (inCut s r i (number s i x y)) (λ f. true-not-false (holds r x y) (level-holds s r i x y h g f) e)
 
 -- ---- the list of the cut
 

@@ -1,7 +1,7 @@
 -- Laws of the climb from a unit cell to the first square that has a zone on its list: its loop, and what sound tables give.
 use Prim.Native.Nat.{ℕ, zero, suc, _+_, _<_, _≤_}
 use mathlib.Core.Path.{_≡_, refl, ap, ap₂, sym, _∙_}
-use mathlib.Core.Bool.{Bool, true, false, cond, _||_}
+use mathlib.Core.Bool.{Bool, true, false}
 use mathlib.Core.List.{List, [], _∷_}
 use native.Mathlib.Omega.{arith}
 use Rattle.order.specs.Sums.{bit}
@@ -16,7 +16,7 @@ use Rattle.position.specs.Laws.{column-below, row-below}
 use Rattle.model.specs.declared.answers.ScoringOf.{ScoringOf}
 use Rattle.model.specs.Answers.{Values, numbers}
 use Rattle.model.specs.Model.{zonesAt, zonesOn, filled, climb, levels}
-use Rattle.model.specs.ScoringLaws.{someTo, climb-ext, scores-somewhere}
+use Rattle.model.specs.ScoringLaws.{someTo, climb-ext, climb-here, climb-on, scores-somewhere}
 use Rattle.tables.specs.Tables.{Tables, shapeOf, townOf}
 use Rattle.tables.specs.Derived.{place}
 use Rattle.tables.specs.Sound.{Sound}
@@ -25,19 +25,6 @@ use Rattle.tables.specs.RunLaws.{listed-cut}
 use Rattle.tables.specs.CheckLaws.{size-of}
 use Rattle.lookup.specs.Looks.{listedOn, Climbs}
 use Rattle.lookup.specs.LookLaws.{level-up, level-start}
-
--- ---- marks on the levels
-
--- a level with a mark ends the climb
-marked-ends : (f : ℕ → Bool) (i : ℕ) → f i ≡ true → (someTo f i ≡ true) × (climb f i ≡ 1)
-unfolding someTo climb
-marked-ends f zero e = (e, refl)
-marked-ends f (suc i) e = (ap (λ (t : Bool). t || someTo f i) e, ap (λ (t : Bool). cond t 1 (1 + climb f i)) e)
-
--- one without goes on to the next
-unmarked-goes : (f : ℕ → Bool) (i : ℕ) → f (suc i) ≡ false → (someTo f (suc i) ≡ someTo f i) × (climb f (suc i) ≡ 1 + climb f i)
-unfolding someTo climb
-unmarked-goes f i e = (ap (λ (t : Bool). t || someTo f i) e, ap (λ (t : Bool). cond t 1 (1 + climb f i)) e)
 
 -- ---- the loop
 
@@ -71,7 +58,7 @@ module _ {s : Shape} {x y : ℕ} (map : OnMap s x y) (starts : List ℕ) where
 
     -- at the first list that is not empty
     pub climb-found : {r : Bool} → r ≡ listedAt starts p → r ≡ true → Climbs s x y starts (ScoringOf.Yes looked)
-    climb-found e q = let a = marked-ends (listedOn s x y starts) (c .level) (mark e q) in answers (a .0) (a .1)
+    climb-found e q = let a = climb-here (listedOn s x y starts) (c .level) (mark e q) in answers (a .0) (a .1)
 
     -- past the block
     pub climb-ended : {r : Bool} → r ≡ listedAt starts p → r ≡ false → s .k < looked → Climbs s x y starts (ScoringOf.No looked)
@@ -86,7 +73,7 @@ module _ {s : Shape} {x y : ℕ} (map : OnMap s x y) (starts : List ℕ) where
         go : (i : ℕ) → c .level ≡ i → Climbing s x y starts p′ (looked + 1)
         go zero z = absurd (omega (arith, c .sum))
         go (suc i) z =
-            let on = unmarked-goes (listedOn s x y starts) i (ap (listedOn s x y starts) (sym z) ∙ mark e q) in
+            let on = climb-on (listedOn s x y starts) i (ap (listedOn s x y starts) (sym z) ∙ mark e q) in
             let all = ap (climb (listedOn s x y starts)) z ∙ on .1 in
             record {
               level = i;

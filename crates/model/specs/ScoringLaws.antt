@@ -2,7 +2,7 @@
 use Prim.Native.Nat.{ℕ, zero, suc, _+_, _-_, _<_, _≤_}
 use mathlib.Core.Path.{_≡_, refl, ap, sym, _∙_}
 use mathlib.Core.Logic.{⊎-elim}
-use mathlib.Core.Bool.{Bool, true, false, cond, _||_, or-true}
+use mathlib.Core.Bool.{Bool, true, false, cond, _||_}
 use mathlib.Core.List.{List·Memᴰ}
 use mathlib.Core.Option.{Option, none, some}
 use native.Mathlib.Omega.{arith}
@@ -16,7 +16,7 @@ use Rattle.squares.specs.Shape.{holds}
 use Rattle.squares.specs.Bounds.{Allowed}
 use Rattle.squares.specs.Squares.{number}
 use Rattle.cuts.specs.Cut.{inCut}
-use Rattle.cuts.specs.CutLaws.{one-level, no-level}
+use Rattle.cuts.specs.CutLaws.{one-level, level-holds}
 use Rattle.position.specs.declared.Position.{Position}
 use Rattle.position.specs.Answer.{columnOf, rowOf}
 use Rattle.position.specs.Laws.{column-below}
@@ -35,31 +35,6 @@ unfolding climb someTo
 climb-ext f g zero h = (refl, h 0 (omega arith))
 climb-ext f g (suc n) h = let below = climb-ext f g n (λ i l. h i (omega arith)) in (rw (h (suc n) (omega arith), below .0), rw (h (suc n) (omega arith), below .1))
 
-pub climb-few : (marked : ℕ → Bool) (n : ℕ) → climb marked n ≤ n + 1
-unfolding climb
-climb-few marked zero = omega arith
-climb-few marked (suc n) = go (marked (suc n)) (climb-few marked n)
-  where
-    go : (t : Bool) → climb marked n ≤ n + 1 → cond t 1 (1 + climb marked n) ≤ suc n + 1
-    go true h = omega arith
-    go false h = omega arith
-
-pub some→ : (marked : ℕ → Bool) (n : ℕ) → someTo marked n ≡ true → (i : ℕ) × (i ≤ n) × (marked i ≡ true)
-unfolding someTo
-some→ marked zero e = (0, omega arith, e)
-some→ marked (suc n) e = ⊎-elim
-    (λ (q : marked (suc n) ≡ true). (suc n, omega arith, q))
-    (λ (q : marked (suc n) ≡ false). let a = some→ marked n (sym (ap (λ (t : Bool). t || someTo marked n) q) ∙ e) in (a .0, omega arith, a .2))
-    (true-or-false (marked (suc n)))
-
-pub →some : (marked : ℕ → Bool) (n i : ℕ) → i ≤ n → marked i ≡ true → someTo marked n ≡ true
-unfolding someTo
-→some marked zero i h e = let z : i ≡ 0 = omega arith in rw z at e
-→some marked (suc n) i h e = ⊎-elim
-    (λ (l : i < suc n). ap (λ (t : Bool). marked (suc n) || t) (→some marked n i (omega arith) e) ∙ or-true (marked (suc n)))
-    (λ (l : suc n ≤ i). let z : i ≡ suc n = omega arith in ap (λ (t : Bool). t || someTo marked n) (rw z at e))
-    (lt-or-le i (suc n))
-
 -- the level with which they end: the first from n on that has a mark
 pub record Ends (marked : ℕ → Bool) (n : ℕ) : Type 0 where
   pub level : ℕ
@@ -68,31 +43,54 @@ pub record Ends (marked : ℕ → Bool) (n : ℕ) : Type 0 where
   pub first : (j : ℕ) → level < j → j ≤ n → marked j ≡ false
   pub count : climb marked n ≡ n - level + 1
 
-pub climb-ends : (marked : ℕ → Bool) (n : ℕ) → someTo marked n ≡ true → Ends marked n
-unfolding climb someTo
-climb-ends marked zero e = record { level = 0; there = omega arith; mark = e; first = λ j l h. absurd (omega arith); count = refl }
-climb-ends marked (suc n) e = ⊎-elim
-    (λ (q : marked (suc n) ≡ true). record { level = suc n; there = omega arith; mark = q; first = λ j l h. absurd (omega arith); count = rw q (omega arith) })
-    (λ (q : marked (suc n) ≡ false).
-    let a = climb-ends marked n (sym (ap (λ (t : Bool). t || someTo marked n) q) ∙ e) in
-    record {
-      level = a .level;
-      there = omega (arith, a .there);
-      mark = a .mark;
-      first = λ j l h. ⊎-elim (λ (b : j < suc n). a .first j l (omega arith)) (λ (b : suc n ≤ j). let z : j ≡ suc n = omega arith in ap marked z ∙ q) (lt-or-le j (suc n));
-      count = let more : 1 + climb marked n ≡ suc n - a .level + 1 = omega (arith, a .count, a .there) in ap (λ (t : Bool). cond t 1 (1 + climb marked n)) q ∙ more;
-    })
-    (true-or-false (marked (suc n)))
+module _ (marked : ℕ → Bool) where
+  -- a level that has a mark is the last, one that has none is followed by the next
+  pub climb-here : (i : ℕ) → marked i ≡ true → (someTo marked i ≡ true) × (climb marked i ≡ 1)
+  unfolding climb someTo
+  climb-here zero e = (e, refl)
+  climb-here (suc i) e = (ap (λ (t : Bool). t || someTo marked i) e, ap (λ (t : Bool). cond t 1 (1 + climb marked i)) e)
 
--- all, where none has a mark
-pub climb-all : (marked : ℕ → Bool) (n : ℕ) → someTo marked n ≡ false → climb marked n ≡ n + 1
-unfolding climb someTo
-climb-all marked zero e = refl
-climb-all marked (suc n) e = go (marked (suc n)) e (climb-all marked n)
-  where
-    go : (t : Bool) → (t || someTo marked n) ≡ false → (someTo marked n ≡ false → climb marked n ≡ n + 1) → cond t 1 (1 + climb marked n) ≡ suc n + 1
-    go true q below = absurd (true-not-false true refl q)
-    go false q below = omega (arith, below q)
+  pub climb-on : (i : ℕ) → marked (suc i) ≡ false → (someTo marked (suc i) ≡ someTo marked i) × (climb marked (suc i) ≡ 1 + climb marked i)
+  unfolding climb someTo
+  climb-on i e = (ap (λ (t : Bool). t || someTo marked i) e, ap (λ (t : Bool). cond t 1 (1 + climb marked i)) e)
+
+  pub climb-few : (n : ℕ) → climb marked n ≤ n + 1
+  unfolding climb
+  climb-few zero = omega arith
+  climb-few (suc n) = ⊎-elim (λ e. omega (arith, climb-here (suc n) e .1)) (λ e. omega (arith, climb-on n e .1, climb-few n)) (true-or-false (marked (suc n)))
+
+  some-level : (n i : ℕ) → i ≤ n → marked i ≡ true → someTo marked n ≡ true
+  some-level zero i h e = let z : i ≡ 0 = omega arith in climb-here 0 (ap marked (sym z) ∙ e) .0
+  some-level (suc n) i h e = ⊎-elim
+      (λ q. climb-here (suc n) q .0)
+      (λ (q : marked (suc n) ≡ false). climb-on n q .0 ∙ ⊎-elim
+      (λ (l : i < suc n). some-level n i (omega arith) e)
+      (λ (l : suc n ≤ i). let z : i ≡ suc n = omega arith in absurd (true-not-false (marked (suc n)) (ap marked (sym z) ∙ e) q))
+      (lt-or-le i (suc n)))
+      (true-or-false (marked (suc n)))
+
+  pub climb-ends : (n : ℕ) → someTo marked n ≡ true → Ends marked n
+  unfolding climb someTo
+  climb-ends zero e = record { level = 0; there = omega arith; mark = e; first = λ j l h. absurd (omega arith); count = refl }
+  climb-ends (suc n) e = ⊎-elim
+      (λ q. record { level = suc n; there = omega arith; mark = q; first = λ j l h. absurd (omega arith); count = omega (arith, climb-here (suc n) q .1) })
+      (λ (q : marked (suc n) ≡ false).
+      let on = climb-on n q in
+      let a = climb-ends n (sym (on .0) ∙ e) in
+      record {
+        level = a .level;
+        there = omega (arith, a .there);
+        mark = a .mark;
+        first = λ j l h. ⊎-elim (λ (b : j < suc n). a .first j l (omega arith)) (λ (b : suc n ≤ j). let z : j ≡ suc n = omega arith in ap marked z ∙ q) (lt-or-le j (suc n));
+        count = omega (arith, on .1, a .count, a .there);
+      })
+      (true-or-false (marked (suc n)))
+
+  -- all, where none has a mark
+  pub climb-all : (n : ℕ) → someTo marked n ≡ false → climb marked n ≡ n + 1
+  unfolding climb
+  climb-all zero e = refl
+  climb-all (suc n) e = ⊎-elim (λ q. absurd (true-not-false _ (climb-here (suc n) q .0) e)) (λ q. let on = climb-on n q in omega (arith, on .1, climb-all n (sym (on .0) ∙ e))) (true-or-false (marked (suc n)))
 
 -- ---- a position
 
@@ -121,10 +119,7 @@ module _ (m : Town) (p : Position) (allowed : Allowed (m .opening .shape)) where
   abbrev onLevel : ℕ → Rect → Bool
   onLevel i r = inCut s r i (number s i x y)
 
-  holds-level : (r : Rect) (i : ℕ) → i ≤ s .k → onLevel i r ≡ true → inZone r ≡ true
-  holds-level r i h e = ⊎-elim (λ (f : inZone r ≡ true). f) (λ (f : inZone r ≡ false). absurd (true-not-false _ e (no-level s r i x y h (column-below s p allowed) f))) (true-or-false (inZone r))
-
-  -- a zone that has one of the rectangles is one of the list
+  -- a zone whose rectangle passes a test is one of those that do, and one of those is such a zone
   zone-in : (test : Rect → Bool) (z : ℕ) (r : Rect) → List·Memᴰ z (upto (m .opening .zones)) → m .zone z ≡ some r → test r ≡ true → filled (keep (λ (n : ℕ). there (m .zone n) test) (upto (m .opening .zones))) ≡ true
   zone-in test z r h e q = lt-ltb 0 _ (keep-some (λ (n : ℕ). there (m .zone n) test) (upto (m .opening .zones)) z h (ap (λ (o : Option Rect). there o test) e ∙ q))
 
@@ -140,8 +135,8 @@ module _ (m : Town) (p : Position) (allowed : Allowed (m .opening .shape)) where
       (λ (e : filled (zonesAt m p) ≡ true).
       let a = in-zone inZone e in
       let l = one-level s (a .2) x y (column-below s p allowed) (a .4) in
-      →some marked (s .k) (l .level) (l .there) (zone-in (onLevel (l .level)) (a .0) (a .2) (a .1) (a .3) (l .taken)))
+      some-level marked (s .k) (l .level) (l .there) (zone-in (onLevel (l .level)) (a .0) (a .2) (a .1) (a .3) (l .taken)))
       (λ (e : someTo marked (s .k) ≡ true).
-      let i = some→ marked (s .k) e in
-      let a = in-zone (onLevel (i .0)) (i .2) in
-      zone-in inZone (a .0) (a .2) (a .1) (a .3) (holds-level (a .2) (i .0) (i .1) (a .4)))
+      let l = climb-ends marked (s .k) e in
+      let a = in-zone (onLevel (l .level)) (l .mark) in
+      zone-in inZone (a .0) (a .2) (a .1) (a .3) (level-holds s (a .2) (l .level) x y (l .there) (column-below s p allowed) (a .4)))

@@ -1,7 +1,7 @@
 -- Laws of a square's run of entries: where it starts, what stands in it, and which levels of a cell have a zone.
 use Prim.Native.Nat.{ℕ, _+_, _-_, _*_, _%_, _<_, _≤_}
 use mathlib.Core.Path.{_≡_, refl, ap, ap₂, sym, _∙_}
-use mathlib.Core.Bool.{Bool, true, false, _&&_}
+use mathlib.Core.Bool.{Bool, true, _&&_}
 use mathlib.Core.Logic.{⊎-elim}
 use mathlib.Core.List.{List, _++_, append-assoc}
 use native.Mathlib.Omega.{arith}
@@ -12,7 +12,7 @@ use lib.ListN.{length, getD, take, drop, replicate, length-append, List·getD-eq
 use lib.Seq.{take-at, drop-at}
 use borrow.Author.Tests.{le-ltb, lt-ltb, ltb-true}
 use Rattle.order.specs.Order.{span, upto, keep}
-use Rattle.order.specs.TestLaws.{lt-or-le, true-or-false, true-not-false, and→, both-ways}
+use Rattle.order.specs.TestLaws.{lt-or-le, true-not-false, and→, both-ways}
 use Rattle.order.specs.KeepLaws.{span-add, span→, →span, keep-append, keep-some, some-kept}
 use Rattle.squares.specs.declared.shape.Rect.{Rect}
 use Rattle.squares.specs.Shape.{width, height, holds}
@@ -20,7 +20,7 @@ use Rattle.squares.specs.Squares.{squares, squaresOn, number}
 use Rattle.cuts.specs.Cut.{inCut}
 use Rattle.model.specs.Model.{there, filled}
 use Rattle.squares.specs.SquareLaws.{number-below}
-use Rattle.cuts.specs.CutLaws.{one-level, no-level}
+use Rattle.cuts.specs.CutLaws.{one-level, level-holds}
 use Rattle.tables.specs.Tables.{Tables, shapeOf, zoneRoom, entryRoom, rectOf, stands, zoneIn, zoneHolds}
 use Rattle.tables.specs.Sizes.{Sized}
 use Rattle.tables.specs.Derived.{place, on, keysTo, used, free}
@@ -98,7 +98,7 @@ module _ (t : Tables) (x y z : ℕ) (column : x < width (shapeOf t)) (row : y < 
   pub level→holds : (i : ℕ) → i ≤ shapeOf t .k → onCell t x y i z ≡ true → zoneHolds t z x y ≡ true
   level→holds i h e =
       let a = and→ (stands t z) (inCut (shapeOf t) (rectOf t z) i (number (shapeOf t) i x y)) (sym (on-cell i h) ∙ e) in
-      rw (zone-holds t z x y, a .0) (⊎-elim (λ (f : holds (rectOf t z) x y ≡ true). f) (λ (f : holds (rectOf t z) x y ≡ false). absurd (true-not-false _ (a .1) (no-level (shapeOf t) (rectOf t z) i x y h column f))) (true-or-false (holds (rectOf t z) x y)))
+      rw (zone-holds t z x y, a .0) (level-holds (shapeOf t) (rectOf t z) i x y h column (a .1))
 
 -- a standing zone's number is below the capacity
 pub stands-below : (t : Tables) (z : ℕ) → Sized t → stands t z ≡ true → z < zoneRoom t

@@ -297,9 +297,8 @@ impl Brute {
     fn in_a_cut(&self, level: u32, (x, y): Cell) -> bool {
         let corner = |side: u32| (x - x % side, y - y % side);
         let side = 1 << (self.shape.k - level);
-        let taken = |r: Rectangle| {
-            inside(r, corner(side), side) && (level == 0 || !inside(r, corner(2 * side), 2 * side))
-        };
+        let taken =
+            |r: Rectangle| inside(r, corner(side), side) && (level == 0 || !inside(r, corner(2 * side), 2 * side));
         self.zones.iter().flatten().any(|&r| taken(r))
     }
 
