@@ -284,7 +284,7 @@ module _ {es : List Event} {t : Tables} (h : History es t) where
   unfolding meaning first
   holder-accepted z e = rw (lt-ltb z (said es .opening .zones) (zone-there e), e)
 
--- ---- on sound tables, after whatever they were made by
+-- ---- on sound tables, however they came about
 
 -- a scoring says yes exactly when a search of the same position writes a zone
 pub scoring-search : {t t′ t″ : Tables} → Sound t → {p : Position} {b : List ℕ} {buffers : List (List ℕ)} {squares zones : ℕ} → Keeps (both t t′) (event (searching p b) buffers (searchedIs (Searched.Found squares zones))) → (answer : ScoringOf) → Keeps (both t t″) (event (askScoring p) [] (scoringIs answer)) → scoringIs answer ≡ accept (numbers (bit (ltb 0 zones) ∷ levels (townOf t) p ∷ []))
