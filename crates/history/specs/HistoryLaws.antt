@@ -9,10 +9,10 @@ use borrow.Author.Tests.{le-leb, ltb-true, not-true, eq-eqb, eqb-true}
 use Rattle.order.specs.TestLaws.{and→, both-ways}
 use Rattle.squares.specs.Squares.{squares}
 use Rattle.squares.specs.ShapeLaws.{allowed→, fits→}
-use Rattle.squares.specs.Refusals.{first, Answer, refuse, accept, result}
-use Rattle.squares.specs.RefusalLaws.{by-refusal, clear}
+use Rattle.squares.specs.Refusals.{first, result}
+use Rattle.squares.specs.RefusalLaws.{clear}
 use Rattle.model.specs.declared.answers.Opened.{Opened}
-use Rattle.model.specs.Answers.{Values, numbers}
+use Rattle.model.specs.Answers.{numbers}
 use Rattle.model.specs.Teams.{lastTeam}
 use Rattle.model.specs.TeamLaws.{teamed-few}
 use Rattle.model.specs.Model.{Opening, Car, Town, known, Call, opening, adding, removing, reporting, leaving, searching, askScoring, askRoster, askCount, askHolder, askWhere, askSoundness, Event, Change, emptied, nothing, changeOf, changeBy, change, after, Lengths, meaning}
@@ -31,7 +31,7 @@ use Rattle.edits.specs.CarLaws.{report-sound, leave-sound}
 use Rattle.edits.specs.TownLaws.{town-zone-on, town-zone-off, town-car-at, town-car-off}
 use Rattle.promises.specs.Promise.{lengthsIn, means, bars, Keeps}
 use Rattle.promises.specs.Events.{opened}
-use Rattle.promises.specs.PromiseLaws.{refuser, accepted→, keeps-told, trusts-sound}
+use Rattle.promises.specs.PromiseLaws.{refuser, accepted→, keeps-clear, keeps-told, trusts-sound}
 use Rattle.history.specs.History.{History, begins, goes, said, alike, lengthsSaid, replayed}
 
 -- ---- one call more
@@ -92,9 +92,9 @@ module _ (t : Tables) (sound : Sound t) where
 -- an open on any tables, where its answer is no refusal
 begins-next : {o : Opening} {t t′ : Tables} → Keeps (both t t′) (opened o Opened.Done) → Next (emptied o) t t′
 unfolding meaning
-begins-next {o} {t} {t′} k = by-refusal (bars t (opening o))
-    (λ none. subst (λ (u : Tables). Next (emptied o) t u) (sym (k .does none true tt .1)) (next-empty t o none))
-    (λ f. let d : _≡_ {A = Answer Values} (accept (numbers [])) (refuse (bars t (opening o))) = ap (λ (x : Event). x .result .answer) (k .refuses f .0) in let z : _≡_ {A = ℕ} 0 1 = cc in absurd (omega arith))
+begins-next {o} {t} {t′} k =
+    let none = keeps-clear (opened o Opened.Done) (numbers []) k refl in
+    subst (λ (u : Tables). Next (emptied o) t u) (sym (k .does none true tt .1)) (next-empty t o none)
 
 -- ---- any history
 

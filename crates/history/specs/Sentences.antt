@@ -17,7 +17,7 @@ use Rattle.squares.specs.declared.shape.Rect.{Rect}
 use Rattle.squares.specs.Bounds.{Allowed}
 use Rattle.cuts.specs.Cut.{cut}
 use Rattle.squares.specs.Refusals.{first, Answer, refuse, accept, Result, giving, result}
-use Rattle.squares.specs.RefusalLaws.{clear, by-refusal}
+use Rattle.squares.specs.RefusalLaws.{clear}
 use Rattle.position.specs.declared.Position.{Position}
 use Rattle.model.specs.declared.answers.Opened.{Opened}
 use Rattle.model.specs.declared.answers.Added.{Added}
@@ -48,7 +48,7 @@ use Rattle.tables.specs.CheckLaws.{size-of}
 use Rattle.tables.specs.Steps.{emptyTown, step}
 use Rattle.promises.specs.Promise.{means, bars, Keeps}
 use Rattle.promises.specs.Events.{event, opened}
-use Rattle.promises.specs.PromiseLaws.{outcomeIn, keeps-done, keeps-told, keeps-unique, trusts-sound, some-kept}
+use Rattle.promises.specs.PromiseLaws.{outcomeIn, keeps-done, keeps-clear, keeps-told, keeps-unique, trusts-sound, some-kept}
 use Rattle.history.specs.History.{History, begins, goes, said, lengthsSaid, replayed}
 use Rattle.history.specs.HistoryLaws.{agrees, lengths-are, next}
 
@@ -199,9 +199,9 @@ module _ {es : List Event} {t : Tables} (h : History es t) where
   module _ {t′ : Tables} {c g : ℕ} {p : Position} {buffers : List (List ℕ)} {e l : List ℕ} {v : Values} (k : Keeps (both t t′) (event (reporting c g p e l) buffers (accept v))) (z : ℕ) where
     reporter : c < said es .opening .cars
     unfolding meaning
-    reporter = by-refusal (bars t (reporting c g p e l))
-        (λ none. omega (arith, ltb-true c (carRoom t) (clear (means t (reporting c g p e l) .checks) refl none .1 .0), ap (λ (m : Town). m .opening .cars) town-after))
-        (λ f. let d : _≡_ {A = Answer Values} (accept v) (refuse (bars t (reporting c g p e l))) = ap (λ (x : Event). x .result .answer) (k .refuses f .0) in let n : _≡_ {A = ℕ} 0 1 = cc in absurd (omega arith))
+    reporter =
+        let none = keeps-clear (event (reporting c g p e l) buffers (accept v)) v k refl in
+        omega (arith, ltb-true c (carRoom t) (clear (means t (reporting c g p e l) .checks) refl none .1 .0), ap (λ (m : Town). m .opening .cars) town-after)
 
     pub count-entered : holdsCar (said es) z c ≡ false → holdsSpot (said es) z p ≡ true → length (roster (said (event (reporting c g p e l) buffers (accept v) ∷ es)) z) ≡ length (roster (said es) z) + 1
     unfolding said
@@ -241,9 +241,9 @@ module _ {es : List Event} {t : Tables} (h : History es t) where
   -- a car on the map keeps its team
   pub team-fixed : {t′ : Tables} {c g : ℕ} {p : Position} {buffers : List (List ℕ)} {e l : List ℕ} {v : Values} → Keeps (both t t′) (event (reporting c g p e l) buffers (accept v)) → {a : Car} → said es .car c ≡ some a → g ≡ a .team
   unfolding meaning
-  team-fixed {t′} {c} {g} {p} {buffers} {e} {l} {v} k {a} q = by-refusal (bars t (reporting c g p e l))
-      (λ none. teamed-own a g (rw (ap (λ (m : Town). m .car c) town-after ∙ q) at (clear (means t (reporting c g p e l) .checks) refl none .1 .1 .0)))
-      (λ f. let d : _≡_ {A = Answer Values} (accept v) (refuse (bars t (reporting c g p e l))) = ap (λ (x : Event). x .result .answer) (k .refuses f .0) in let n : _≡_ {A = ℕ} 0 1 = cc in absurd (omega arith))
+  team-fixed {t′} {c} {g} {p} {buffers} {e} {l} {v} k {a} q =
+      let none = keeps-clear (event (reporting c g p e l) buffers (accept v)) v k refl in
+      teamed-own a g (rw (ap (λ (m : Town). m .car c) town-after ∙ q) at (clear (means t (reporting c g p e l) .checks) refl none .1 .1 .0))
 
   -- ---- what stands is within the capacities
 
@@ -289,13 +289,12 @@ module _ {es : List Event} {t : Tables} (h : History es t) where
 -- a scoring says yes exactly when a search of the same position writes a zone
 pub scoring-search : {t t′ t″ : Tables} → Sound t → {p : Position} {b : List ℕ} {buffers : List (List ℕ)} {squares zones : ℕ} → Keeps (both t t′) (event (searching p b) buffers (searchedIs (Searched.Found squares zones))) → (answer : ScoringOf) → Keeps (both t t″) (event (askScoring p) [] (scoringIs answer)) → scoringIs answer ≡ accept (numbers (bit (ltb 0 zones) ∷ levels (townOf t) p ∷ []))
 unfolding meaning first
-scoring-search {t} sound {p} {b} {buffers} {squares} {zones} found answer told = by-refusal (bars t (searching p b))
-    (λ none.
+scoring-search {t} sound {p} {b} {buffers} {squares} {zones} found answer told =
+    let none = keeps-clear (event (searching p b) buffers (searchedIs (Searched.Found squares zones))) (numbers (squares ∷ zones ∷ [])) found refl in
     let h = clear (means t (searching p b) .checks) refl none in
     let clear-too : bars t (askScoring p) ≡ 0 = rw (h .0, h .1 .0) in
     let many : zones ≡ length (zonesAt (townOf t) p) = ap (λ (x : Event). zonesTold (x .result .answer)) (found .does none true sound .0) ∙ ap (λ (i : ℕ). zonesTold (answered (searching p b) i)) none in
-    ap (λ (x : Event). x .result .answer) (told .does clear-too true sound .0) ∙ ap (answered (askScoring p)) clear-too ∙ ap (λ (n : ℕ). accept (numbers (bit (ltb 0 n) ∷ levels (townOf t) p ∷ []))) (sym many))
-    (λ f. let d : _≡_ {A = Answer Values} (searchedIs (Searched.Found squares zones)) (refuse (bars t (searching p b))) = ap (λ (x : Event). x .result .answer) (found .refuses f .0) in let n : _≡_ {A = ℕ} 0 1 = cc in absurd (omega arith))
+    ap (λ (x : Event). x .result .answer) (told .does clear-too true sound .0) ∙ ap (answered (askScoring p)) clear-too ∙ ap (λ (n : ℕ). accept (numbers (bit (ltb 0 n) ∷ levels (townOf t) p ∷ []))) (sym many)
   where
     answered : Call → ℕ → Answer Values
     answered call i = result i (means t call .writes) (means t call .gives true) .answer

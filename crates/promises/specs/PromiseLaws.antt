@@ -86,6 +86,10 @@ module _ (t : Tables) (call : Call) (left : Result Values) where
         (ap (event-of t call) (d .1 .0) ∙ sym (settled-out t call sound 0 z (d .0)), d .1 .1 ∙ sym (ap (λ (b : Answer Values). step (changeBy b (changeOf call)) t) a));
   }
 
+-- an accepted call is not barred
+pub keeps-clear : {t t′ : Tables} (e : Event) (v : Values) → Keeps (both t t′) e → e .result .answer ≡ accept v → bars t (e .call) ≡ 0
+keeps-clear {t} e v k a = by-refusal (bars t (e .call)) (λ z. z) (λ f. absurd (not-both (bars t (e .call)) v (sym a ∙ ap (λ (x : Event). x .result .answer) (k .refuses f .0))))
+
 -- ---- one outcome
 
 module _ (sound : Bool) {t t′ : Tables} {e : Event} (k : Keeps (both t t′) e) (trust : bars t (e .call) ≡ 0 → Trusts (means t (e .call) .trusts) sound t) where

@@ -175,22 +175,11 @@ fn reports(engine: &mut impl Engine, work: &Work, moves: &[Move], best: &mut Bes
     }
 }
 
-fn searches(engine: &mut impl Engine, work: &Work, best: &mut Best) {
+/// Searches or scorings, each at the same positions.
+fn looks(work: &Work, best: &mut Best, mut look: impl FnMut(Position)) {
     for batch in work.spots.chunks(BATCH) {
         let began = Instant::now();
-        for &at in batch {
-            black_box(engine.search(at));
-        }
-        best.note(began, batch.len());
-    }
-}
-
-fn scorings(engine: &impl Engine, work: &Work, best: &mut Best) {
-    for batch in work.spots.chunks(BATCH) {
-        let began = Instant::now();
-        for &at in batch {
-            black_box(engine.scores(at));
-        }
+        batch.iter().for_each(|&at| look(at));
         best.note(began, batch.len());
     }
 }
@@ -248,8 +237,12 @@ fn round(engine: &mut impl Engine, work: &Work, best: &mut [Best; CALLS.len()]) 
     let [far, near, search, add, remove, roster, open, count, holder, scoring] = best;
     reports(engine, work, &work.far, far);
     reports(engine, work, &work.near, near);
-    searches(engine, work, search);
-    scorings(engine, work, scoring);
+    looks(work, search, |at| {
+        black_box(engine.search(at));
+    });
+    looks(work, scoring, |at| {
+        black_box(engine.scores(at));
+    });
     zones(engine, work, add, remove);
     rosters(engine, work, roster);
     asks(work, count, |zone| engine.count(zone));
