@@ -59,11 +59,17 @@ impl Refusal {
     }
 
     /// What a C function returned, as a result.
+    #[inline]
     pub(crate) fn check(returned: u32) -> Result<(), Refusal> {
         match returned {
             0 => Ok(()),
-            number => Err(Refusal::from_number(number).expect("a call returns 0 to 13 or 15")),
+            number => Err(Refusal::given(number)),
         }
+    }
+
+    #[cold]
+    fn given(number: u32) -> Refusal {
+        Refusal::from_number(number).expect("a call returns 0 to 13 or 15")
     }
 }
 

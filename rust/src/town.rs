@@ -317,6 +317,7 @@ impl Town {
     /// assert_eq!(town.report(1, red, Position { x: 16.5, y: 8.0 }), Err(Refusal::PositionOffMap));
     /// # Ok::<(), Refusal>(())
     /// ```
+    #[inline]
     pub fn report(&mut self, car: u32, team: Team, at: Position) -> Result<Reported<'_>, Refusal> {
         let mut values = [0; 3];
         call!(
@@ -348,6 +349,7 @@ impl Town {
     }
 
     /// Takes a car off the map. Refusals: [`Refusal::NoSuchCar`], [`Refusal::CarOffMap`].
+    #[inline]
     pub fn leave(&mut self, car: u32) -> Result<Left<'_>, Refusal> {
         let mut values = [0; 2];
         call!(
@@ -374,6 +376,7 @@ impl Town {
     }
 
     /// The zones that hold a position. Refusal: [`Refusal::PositionOffMap`].
+    #[inline]
     pub fn search(&mut self, at: Position) -> Result<Found<'_>, Refusal> {
         let mut values = [0; 2];
         read!(
@@ -405,6 +408,7 @@ impl Town {
     /// assert_eq!(town.scoring(Position { x: 16.5, y: 9.5 }), Err(Refusal::PositionOffMap));
     /// # Ok::<(), Refusal>(())
     /// ```
+    #[inline]
     pub fn scoring(&self, at: Position) -> Result<Scoring, Refusal> {
         let mut values = [0; 2];
         read!(unwadegiro_scoring, self, at.x, at.y, values.as_mut_ptr(), values.len())?;
@@ -413,6 +417,7 @@ impl Town {
     }
 
     /// The cars in a zone, lowest first. Refusals: [`Refusal::NoSuchZone`], [`Refusal::ZoneStandsNot`].
+    #[inline]
     pub fn roster(&mut self, zone: u32) -> Result<&[u32], Refusal> {
         let mut values = [0; 1];
         read!(
@@ -444,6 +449,7 @@ impl Town {
     /// assert_eq!(town.count(1), Err(Refusal::ZoneStandsNot));
     /// # Ok::<(), Refusal>(())
     /// ```
+    #[inline]
     pub fn count(&self, zone: u32) -> Result<u32, Refusal> {
         let mut values = [0; 1];
         read!(unwadegiro_count, self, zone, values.as_mut_ptr(), values.len())?;
@@ -469,6 +475,7 @@ impl Town {
     /// assert_eq!(town.holder(0)?.holder, None);
     /// # Ok::<(), Refusal>(())
     /// ```
+    #[inline]
     pub fn holder(&self, zone: u32) -> Result<Standing, Refusal> {
         let mut values = [0; 9];
         read!(unwadegiro_holder, self, zone, values.as_mut_ptr(), values.len())?;
@@ -478,6 +485,7 @@ impl Town {
 
     /// Where a car is: the position of its last accepted report. Refusals: [`Refusal::NoSuchCar`],
     /// [`Refusal::CarOffMap`].
+    #[inline]
     pub fn where_is(&self, car: u32) -> Result<Position, Refusal> {
         let mut position = [0.0; 2];
         read!(unwadegiro_where, self, car, position.as_mut_ptr(), position.len())?;

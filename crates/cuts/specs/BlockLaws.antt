@@ -5,6 +5,7 @@ use mathlib.Core.List.{List, [], _++_, append-nil}
 use native.Mathlib.Numerals.{add-one}
 use native.Mathlib.Omega.{arith}
 use native.Mathlib.Nat.{mul-one, zero-mul, zero-add, one-mul, add-assoc, add-zero, add-mul, suc-mul, mul-comm, mul-le-mul-right, sub-zero, div-lt-iff-lt-mul, le-div-iff-mul-le, div-one, div-mul-le-self, lt-div-mul-add, le-of-lt}
+use lib.ListN.{length, length-append}
 use lib.Arith.{digits-div, digits-mod}
 use Rattle.order.specs.Order.{span, keep, upto}
 use Rattle.order.specs.KeepLaws.{span-add, keep-append}
@@ -47,6 +48,22 @@ module _ (s : Shape) (r : Rect) where
   unfolding span keep
   blocks-none i n zero h f = rw (zero-mul (4 ^ i))
   blocks-none i n (suc m) h f = block-more i n m ∙ rw (blocks-none i n m h (λ j g. f j (omega arith)), block-none i (n + m) h (f m (omega arith)))
+
+  -- more of a span keeps no fewer
+  longer : (i lo n m : ℕ) → n ≤ m → length (keep (inCut s r i) (span lo n)) ≤ length (keep (inCut s r i) (span lo m))
+  longer i lo n m h =
+      let e : m ≡ n + (m - n) = omega arith in
+      let p = inCut s r i in
+      let f : keep p (span lo m) ≡ keep p (span lo n) ++ keep p (span (lo + n) (m - n)) = ap (λ (t : ℕ). keep p (span lo t)) e ∙ rw (span-add lo n (m - n), keep-append) in
+      omega (arith, ap length f, length-append (keep p (span lo n)) (keep p (span (lo + n) (m - n))))
+
+  pub row-longer : (i row n m : ℕ) → n ≤ m → length (inRow s r i row n) ≤ length (inRow s r i row m)
+  unfolding inRow
+  row-longer i row n m h = longer i (row * s .P * 4 ^ i) (n * 4 ^ i) (m * 4 ^ i) (mul-le-mul-right (4 ^ i) h)
+
+  pub rows-longer : (i row : ℕ) → row ≤ s .Q → length (inRows s r i row) ≤ length (keep (inCut s r i) (upto (squaresOn s i)))
+  unfolding inRows
+  rows-longer i row h = longer i 0 (row * s .P * 4 ^ i) (squaresOn s i) (mul-le-mul-right (4 ^ i) (rw (mul-comm (s .P) (s .Q)) (mul-le-mul-right (s .P) h)))
 
   module _ (i row : ℕ) (low : i ≤ s .k) where
     column-of : (col : ℕ) → col < s .P → (row * s .P + col) % s .P ≡ col

@@ -1,16 +1,19 @@
 -- A level's squares inside a rectangle are counted by columns and rows, and those of the cut are the ones that have no parent inside.
 use Prim.Native.Nat.{ℕ, zero, suc, _+_, _-_, _*_, _/_, _^_, _<_, _≤_}
 use mathlib.Core.Path.{_≡_, refl, ap, ap₂, sym, _∙_}
+use mathlib.Core.Logic.{⊎-elim}
 use mathlib.Core.Bool.{Bool, true, false, not, _&&_}
+use mathlib.Core.List.{List, [], _∷_}
 use native.Mathlib.Omega.{arith}
 use native.Mathlib.Numerals.{add-one}
 use native.Mathlib.Nat.{pow-suc, mul-comm, mul-assoc, suc-mul, zero-mul, mul-le-mul, le-pred-of-lt, div-lt-iff-lt-mul, le-div-iff-mul-le, div-le-of-le-mul}
 use lib.Dec.{leb, ltb, lit<}
-use lib.ListN.{length, length-append}
+use lib.ListN.{length, getD, take, set, length-append, length-set}
+use lib.Seq.{length-take-le, getD-set-same, getD-set-other}
 use lib.Pow.{pow-pos, shr-le}
 use borrow.Author.Tests.{le-leb, lt-ltb, leb-true, ltb-true}
 use Rattle.order.specs.Sums.{sum, bit}
-use Rattle.order.specs.TestLaws.{both-ways, true-not-false}
+use Rattle.order.specs.TestLaws.{same-or-other, both-ways, true-not-false}
 use Rattle.order.specs.SumLaws.{sum-ext, sum-plus, sum-times, sum-grid, count-sum, count-between}
 use Rattle.squares.specs.declared.shape.Shape.{Shape}
 use Rattle.squares.specs.declared.shape.Rect.{Rect}
@@ -22,7 +25,7 @@ use Rattle.cuts.specs.Count.{wholes, insideOn, insideAbove}
 use Rattle.squares.specs.SquareLaws.{column, row, blocks}
 use Rattle.cuts.specs.GridLaws.{over-level}
 use Rattle.squares.specs.Leaves.{Positive, Below}
-use Rattle.cuts.specs.Leaves.{AllRoom, Counted, Stretch}
+use Rattle.cuts.specs.Leaves.{AllRoom, PlacesRoom, Placed, Stretch}
 use Rattle.cuts.specs.CutLaws.{parent-inside, length-cut-on, count-few}
 
 -- ---- whole steps of d in a stretch
@@ -118,32 +121,49 @@ module _ (s : Shape) (r : Rect) (fit : Fits s r) where
 
 -- ---- the count, level by level
 
-pub record CountTurn (s : Shape) (r : Rect) (total above level : ℕ) : Type 0 where
+pub record CountTurn (s : Shape) (r : Rect) (places : List ℕ) (total above level : ℕ) : Type 0 where
   pub deep : level ≤ suc (s .k)
+  pub levels : length places ≡ suc (s .k)
+  pub at : (i : ℕ) → i < level → getD places i 0 ≡ length (cutTo s r i)
   pub is : total ≡ length (cutTo s r level)
   pub last : above ≡ insideAbove s r level
   pub most : total ≤ level * 65536
 
-module _ {s : Shape} {r : Rect} (room : AllRoom s r) where
-  pub count-begins : CountTurn s r 0 0 0
-  unfolding cutTo insideAbove
-  count-begins = record { deep = omega arith; is = refl; last = refl; most = omega arith }
+-- six places are enough
+pub places-room : {s : Shape} {r : Rect} → AllRoom s r → PlacesRoom s r (take (s .k + 1) (0 ∷ 0 ∷ 0 ∷ 0 ∷ 0 ∷ 0 ∷ []))
+places-room {s} room = record { shape = room .shape; rect = room .rect; levels = length-take-le (s .k + 1) (0 ∷ 0 ∷ 0 ∷ 0 ∷ 0 ∷ 0 ∷ []) (omega (arith, room .shape .levels)) ∙ add-one (s .k) }
 
-  module _ {total above level x y : ℕ} (turn : CountTurn s r total above level) (low : level ≤ s .k) (p : Below (wholes (r .a) (r .w) (sideOn s level)) 257 x) (q : Below (wholes (r .b) (r .h) (sideOn s level)) 257 y) where
+pub count-begins : {s : Shape} {r : Rect} {places : List ℕ} → PlacesRoom s r places → CountTurn s r places 0 0 0
+unfolding cutTo insideAbove
+count-begins room = record { deep = omega arith; levels = room .levels; at = λ i h. absurd (omega arith); is = refl; last = refl; most = omega arith }
+
+module _ {s : Shape} {r : Rect} {places₀ places : List ℕ} (room : PlacesRoom s r places₀) where
+  module _ {total above level x y : ℕ} (turn : CountTurn s r places total above level) (low : level ≤ s .k) (p : Below (wholes (r .a) (r .w) (sideOn s level)) 257 x) (q : Below (wholes (r .b) (r .h) (sideOn s level)) 257 y) where
     on-level : length (cutOn s r level) + 4 * above ≡ x * y
     on-level = rw (p .is, q .is, turn .last) (cut-count s r (room .rect) level low)
 
     pub count-room : (x * y ≤ 65536) × (4 * above ≤ x * y)
     count-room = (mul-le-mul (le-pred-of-lt (p .below)) (le-pred-of-lt (q .below)), omega (arith, on-level))
 
-    pub count-turns : CountTurn s r (total + (x * y - 4 * above)) (x * y) (level + 1)
+    -- the places up to the level's own
+    placed : (i : ℕ) → i < suc level → getD (set places level total) i 0 ≡ length (cutTo s r i)
+    placed i h = ⊎-elim
+        (λ (e : (i ≡ level)). rw (e, getD-set-same places level total 0 (omega (arith, turn .levels))) (turn .is))
+        (λ (f : (i ≡ level → ⊥)). rw (getD-set-other places level i total 0 f) (turn .at i (omega arith)))
+        (same-or-other i level)
+
+    pub count-turns : CountTurn s r (set places level total) (total + (x * y - 4 * above)) (x * y) (level + 1)
     unfolding cutTo insideAbove
     count-turns = rw (add-one level) (record {
       deep = omega arith;
+      levels = length-set places level total ∙ turn .levels;
+      at = placed;
       is = omega (arith, turn .is, on-level, length-append (cutTo s r level) (cutOn s r level));
       last = ap₂ _*_ (p .is) (q .is);
       most = omega (arith, turn .most, count-room .0);
     })
 
-  pub count-ends : {total above level : ℕ} → CountTurn s r total above level → s .k < level → Counted s r total
-  count-ends {level = level} turn h = let e : level ≡ suc (s .k) = omega (arith, turn .deep) in count-few s r _ (room .shape) (turn .is ∙ ap (λ (i : ℕ). length (cutTo s r i)) e)
+  pub count-ends : {total above level : ℕ} → CountTurn s r places total above level → s .k < level → Placed s r places total
+  count-ends {level = level} turn h =
+      let e : level ≡ suc (s .k) = omega (arith, turn .deep) in
+      record { at = λ i g. turn .at i (omega arith); counted = count-few s r _ (room .shape) (turn .is ∙ ap (λ (i : ℕ). length (cutTo s r i)) e) }

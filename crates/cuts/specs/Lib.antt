@@ -1,7 +1,9 @@
 pub mod Cut
+pub mod Lay
 pub mod Leaves
 pub mod Descent
 pub mod Count
+pub mod LayLaws
 pub mod GridLaws
 pub mod CutLaws
 pub mod CountLaws

@@ -8,16 +8,16 @@ use mathlib.Core.Option.{Option, none, some}
 use native.Mathlib.Omega.{arith}
 use native.Mathlib.Nat.{mod-eq-of-lt}
 use lib.Dec.{leb}
-use lib.ListN.{length, take, drop, replicate, take-append-drop}
-use lib.Seq.{sets, take-at, drop-append-add}
+use lib.ListN.{length, getD, take, drop, replicate, length-append, take-append-drop, List·getD-append}
+use lib.Seq.{sets, take-at, drop-append-add, getD-append-add}
 use borrow.Author.Tests.{leb-true, eq-eqb, ne-eqb, eqb-true}
-use Rattle.order.specs.Order.{upto, keep}
+use Rattle.order.specs.Order.{span, upto, keep}
 use Rattle.order.specs.Sums.{bit}
 use Rattle.order.specs.Buffer.{rank}
 use Rattle.order.specs.RankLaws.{rank-keep}
 use Rattle.order.specs.TestLaws.{lt-or-le, true-or-false, true-not-false, and→, same-or-other}
 use Rattle.order.specs.KeepLaws.{span→, →span, keep→, →keep, keep-ext, keep-keep, length-keep, length-span}
-use Rattle.order.specs.RisingLaws.{rising-span, rising-keep, rising-is-keep}
+use Rattle.order.specs.RisingLaws.{rising-span, rising-keep, rising-is-keep, member-at}
 use Rattle.squares.specs.declared.shape.Rect.{Rect}
 use Rattle.squares.specs.Bounds.{Fits}
 use Rattle.squares.specs.Squares.{squares}
@@ -30,10 +30,10 @@ use Rattle.tables.specs.Sound.{Sound}
 use Rattle.tables.specs.Steps.{fresh, zoned, withZone, step}
 use Rattle.tables.specs.RecordLaws.{zone-out, car-in, car-out, entries-fresh, rosters-fresh, tallies-fresh}
 use Rattle.tables.specs.RowLaws.{mapped, right-row}
-use Rattle.tables.specs.RunLaws.{start-at}
+use Rattle.tables.specs.RunLaws.{keysFrom, keys-add, start-at}
 use Rattle.tables.specs.CheckLaws.{size-of}
 use Rattle.tables.specs.CountLaws.{count-used}
-use Rattle.entries.specs.Merge.{Apart, Union, Merged}
+use Rattle.entries.specs.Merge.{Apart, Union, Guided, Merged}
 use Rattle.entries.specs.Keys.{zoneKeys, KeysAdded}
 use Rattle.rosters.specs.Inside.{carWithin, rowIn, countIn}
 use Rattle.tallies.specs.Counts.{counted}
@@ -55,6 +55,22 @@ drop-marks : (n m : ℕ) → drop n (replicate m free) ≡ replicate (m - n) fre
 drop-marks zero m = let e : m ≡ m - 0 = omega arith in ap (λ (k : ℕ). replicate k free) e
 drop-marks (suc n) zero = let e : 0 ≡ 0 - suc n = omega arith in ap (λ (k : ℕ). replicate k free) e
 drop-marks (suc n) (suc m) = let e : m - n ≡ suc m - suc n = omega arith in drop-marks n m ∙ ap (λ (k : ℕ). replicate k free) e
+
+-- ---- the starts of sound tables
+
+-- of the entries in use those from a place's start on are keys of that place or of later ones
+starts-guide : {t : Tables} → Sound t → (n : ℕ) → Guided (t .derived .starts) n (length (used t)) (t .derived .entries)
+starts-guide {t} sound n p low h i from within =
+    let d = squares (shapeOf t) - p in
+    let e : squares (shapeOf t) ≡ p + d = omega (arith, size-of sound .lengths .starts) in
+    let parts : used t ≡ keysTo t p ++ keysFrom t p d = ap (keysTo t) e ∙ keys-add t p d in
+    let m = i - length (keysTo t p) in
+    let k : i ≡ length (keysTo t p) + m = omega (arith, start-at sound p (omega arith)) in
+    let x = getD (keysFrom t p d) m 0 in
+    let there : m < length (keysFrom t p d) = omega (arith, ap length parts, length-append (keysTo t p) (keysFrom t p d)) in
+    let old : getD (t .derived .entries) i 0 ≡ getD (used t) i 0 = ap (λ (l : List ℕ). getD l i 0) (entries-fresh sound) ∙ List·getD-append (used t) (replicate (entryRoom t - length (used t)) free) 0 i within in
+    let is-x : getD (used t) i 0 ≡ x = ap₂ (λ (l : List ℕ) (v : ℕ). getD l v 0) parts k ∙ getD-append-add (keysTo t p) (keysFrom t p d) m 0 in
+    rw (old, is-x) (span→ (p * 256) (d * 256) x (keep→ (on t) (span (p * 256) (d * 256)) x (member-at (keysFrom t p d) m there) .0) .0)
 
 -- ---- a zone added
 
@@ -119,14 +135,14 @@ module _ (t : Tables) (sound : Sound t) (z : ℕ) (there : z < zoneRoom t) (down
       →new x h e q = →keys (shapeOf t) r (size-of sound .shape) z x (omega arith) q (sym (on-with t z x r record-there (fit .columns) q) ∙ e)
 
   -- the new keys merged into the entries in use
-  entries-added : (e : List ℕ) → Merged (t .derived .entries) e (length (used t)) keys → e ≡ entriesOf added
+  entries-added : (e : List ℕ) → Merged (t .derived .starts) (t .derived .entries) e (length (used t)) keys → e ≡ entriesOf added
   entries-added e m =
       let u = length (used t) in
       let n = length keys in
       let marks = replicate (entryRoom t - u) free in
       let more : length (used added) ≡ u + n = count-added ∙ ap (λ (k : ℕ). u + k) (sym (length-keys (shapeOf t) r (size-of sound .shape) z)) in
       let first : take u (t .derived .entries) ≡ used t = ap (take u) (entries-fresh sound) ∙ take-at (used t) marks u refl in
-      let front : take (u + n) e ≡ used added = used-added (take (u + n) e) (rw first at (m .front (rw first old-new))) in
+      let front : take (u + n) e ≡ used added = used-added (take (u + n) e) (rw first at (m .front (starts-guide sound n) (rw first old-new))) in
       let left : entryRoom t - u - n ≡ entryRoom t - length (used added) = omega arith in
       let rest : drop (u + n) e ≡ replicate (entryRoom t - length (used added)) free = m .rest ∙ ap (drop (u + n)) (entries-fresh sound) ∙ drop-append-add (used t) marks n ∙ drop-marks n (entryRoom t - u) ∙ ap (λ (k : ℕ). replicate k free) left in
       sym (take-append-drop (u + n) e) ∙ ap₂ _++_ front rest

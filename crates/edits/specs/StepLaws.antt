@@ -24,10 +24,10 @@ use Rattle.tables.specs.Steps.{fresh, zoned, withoutZone, step}
 use Rattle.tables.specs.CheckLaws.{size-of, →sized}
 use Rattle.tables.specs.RecordLaws.{entries-fresh, rosters-fresh, tallies-fresh}
 use Rattle.tables.specs.TallyLaws.{length-tallies}
-use Rattle.entries.specs.Drops.{ofOther, Drops}
+use Rattle.entries.specs.Drops.{ofOther, inUse, Drops}
 use Rattle.rosters.specs.Rosters.{rowCleared}
 use Rattle.edits.specs.ZoneLaws.{length-without, stands-without, rect-without-other, stands-without-other, on-without, sized-zoned}
-use Rattle.edits.specs.DropLaws.{drop-sound, lower-sound}
+use Rattle.edits.specs.DropLaws.{zone-listed, entries-without, starts-without}
 use Rattle.squares.specs.ShapeLaws.{fits→, →fits}
 use Rattle.edits.specs.RosterLaws.{rosters-without}
 use Rattle.edits.specs.TallyLaws.{tallies-without}
@@ -82,11 +82,12 @@ module _ (t : Tables) (sound : Sound t) (z : ℕ) where
   remove-sound = fresh-sound (zoned t (withoutZone (t .records .zones) z)) (sized-zoned t (withoutZone (t .records .zones) z) (size-of sound) (length-without (t .records .zones) z)) (omega (arith, removed-room, used-room t sound)) standing (λ c e. sound .cars c e) (λ c e. sound .teams c e)
 
   -- what the functions over each table leave is the step
-  pub removed-is : z < zoneRoom t → (s e : List ℕ) → Drops z (t .derived .starts) s (t .derived .entries) e → tables (t .records .head) (withoutZone (t .records .zones) z) (t .records .cars) (t .records .spots) s e (rowCleared (t .derived .rosters) z (carRoom t)) (sets (t .derived .tallies) (z * tally) (replicate tally 0)) ≡ step (zoneOff z) t
-  removed-is h s e d =
+  pub removed-is : z < zoneRoom t → stands t z ≡ true → (s e : List ℕ) → Drops (shapeOf t) (rectOf t z) z (inUse (t .derived .starts)) (t .derived .starts) s (t .derived .entries) e → tables (t .records .head) (withoutZone (t .records .zones) z) (t .records .cars) (t .records .spots) s e (rowCleared (t .derived .rosters) z (carRoom t)) (sets (t .derived .tallies) (z * tally) (replicate tally 0)) ≡ step (zoneOff z) t
+  removed-is h stand s e drops =
+      let d = drops (zone-listed sound z stand) in
       let w = withoutZone (t .records .zones) z in
       let u = zoned t w in
       let rosters = ap (λ (l : List ℕ). rowCleared l z (carRoom t)) (rosters-fresh sound) ∙ sym (rosters-without t (size-of sound) z h) in
       let tallies = ap (λ (l : List ℕ). sets l (z * tally) (replicate tally 0)) (tallies-fresh sound) ∙ tallies-without t z h in
-      ap₂ (λ (l m : List ℕ). tables (t .records .head) w (t .records .cars) (t .records .spots) l m (rowCleared (t .derived .rosters) z (carRoom t)) (sets (t .derived .tallies) (z * tally) (replicate tally 0))) (lower-sound sound z (d .starts)) (d .entries ∙ drop-sound sound z)
+      ap₂ (λ (l m : List ℕ). tables (t .records .head) w (t .records .cars) (t .records .spots) l m (rowCleared (t .derived .rosters) z (carRoom t)) (sets (t .derived .tallies) (z * tally) (replicate tally 0))) (starts-without sound z d) (entries-without sound z d)
       ∙ ap₂ (λ (l m : List ℕ). tables (t .records .head) w (t .records .cars) (t .records .spots) (startsOf u) (entriesOf u) l m) rosters tallies

@@ -6,15 +6,15 @@ use mathlib.Core.List.{List, [], _∷_, _++_, append-nil}
 use native.Mathlib.Omega.{arith}
 use native.Mathlib.Numerals.{add-one}
 use native.Mathlib.Nat.{add-zero}
-use lib.ListN.{length, getD, take, drop, set, replicate, length-append, length-drop, length-set, drop-of-length-le, take-append-drop}
-use lib.Seq.{length-take-le, take-suc, take-all, take-suc-set, take-set-le, drop-set-lt, drop-drop, drop-cons, getD-drop, getD-at}
+use lib.ListN.{length, getD, take, drop, set, replicate, length-append, length-drop, length-set, take-append-drop}
+use lib.Seq.{length-take-le, take-suc, take-all, take-suc-set, take-set-le, take-append-le, drop-set-lt, drop-drop, drop-cons, drop-at, getD-drop, getD-at}
 use borrow.Author.Tests.{eq-eqb, ne-eqb}
-use borrow.Rule.Slice.PartMut.{midOf, putMid}
+use borrow.Rule.Slice.PartMut.{midOf, putMid, mid-len}
 use Rattle.order.specs.Order.{keep}
 use Rattle.order.specs.KeepLaws.{keep-yes, keep-append}
 use Rattle.tables.specs.Derived.{free}
 use Rattle.starts.specs.Starts.{Reaches}
-use Rattle.entries.specs.Drops.{ofZone, ofOther, own, others, Packed, Drops}
+use Rattle.entries.specs.Drops.{ofZone, ofOther, own, others, Packed, Passed}
 use Rattle.starts.specs.Shift.{less, Shifts}
 use Rattle.starts.specs.ShiftLaws.{Moving, move-begins, move-turns, move-ends, less-more}
 
@@ -111,7 +111,7 @@ module _ {z : ℕ} {s s′ e e′ : List ℕ} {p v r i : ℕ} (k : Dropping z s 
       let some : n < length (own z e) = omega (arith, ap length parts, length-append (own z (take i e)) (getD e′ i 0 ∷ own z (drop (suc i) e))) in
       record {
         packing = pack-skips (k .packing) h f;
-        moving = rw more (move-turns (k .moving) some (rw there reach) (rw (k .lowering) at shifts));
+        moving = rw more (move-turns (k .moving) (k .lowering) some (rw there reach) shifts);
         lowering = rw more (less-more n v v′ small back (k .lowering));
       }
 
@@ -124,13 +124,26 @@ module _ {z : ℕ} {s s′ e e′ : List ℕ} {p v r i : ℕ} (k : Dropping z s 
         front = k .packing .front ∙ ap (others z) a;
         count = k .packing .count ∙ ap (λ (l : List ℕ). length (others z l)) a;
         within = omega (arith, k .packing .passed, k .packing .within);
-        starts = move-ends (k .moving) (omega arith) (rw (k .lowering) at shifts);
+        starts = move-ends (k .moving) (k .lowering) (omega arith) shifts;
       }
 
--- free marks written after them
-pub drop-fills : {z : ℕ} {s s′ e e′ : List ℕ} {r : ℕ} → Packed z s s′ e e′ r → length e′ ≡ length e → (f : List ℕ) → f ≡ replicate (length (midOf r (length e′ - r) e′)) free → Drops z s s′ e (putMid r (length e′ - r) e′ f)
-drop-fills {z} {s} {s′} {e} {e′} {r} p h f q =
-    let m : length (midOf r (length e′ - r) e′) ≡ length e′ - r = length-take-le (length e′ - r) (drop r e′) (omega (arith, length-drop r e′)) in
-    let n : drop (length e′ - r) (drop r e′) ≡ [] = drop-of-length-le (drop r e′) {i = length e′ - r} (omega (arith, length-drop r e′)) in
-    let k : length e′ - r ≡ length e - length (others z e) = omega (arith, p .count) in
-    record { starts = p .starts; entries = ap (λ (l : List ℕ). take r e′ ++ (f ++ l)) n ∙ ap₂ _++_ (p .front) (append-nil f ∙ q ∙ ap (λ (k : ℕ). replicate k free) (m ∙ k)) }
+-- ---- free marks after them
+
+-- free marks written to a part
+pub marked : (l f : List ℕ) (a b : ℕ) → a ≤ b → b ≤ length l → f ≡ replicate (length (midOf a (b - a) l)) free → putMid a (b - a) l f ≡ take a l ++ (replicate (b - a) free ++ drop b l)
+marked l f a b h g e =
+    let k : a + (b - a) ≡ b = omega arith in
+    ap₂ (λ (m n : List ℕ). take a l ++ (m ++ n)) (e ∙ ap (λ (n : ℕ). replicate n free) (mid-len a b l g)) (drop-drop (b - a) a l ∙ ap (λ (n : ℕ). drop n l) k)
+
+-- the first u entries packed, and free marks after them
+pub pass-fills : {z u : ℕ} {s s′ e p : List ℕ} {r : ℕ} → u ≤ length e → Packed z s s′ (take u e) p r → length p ≡ length (take u e) → (f : List ℕ) → f ≡ replicate (length (midOf r (u - r) (p ++ drop u e))) free → Passed z u s s′ e (putMid r (u - r) (p ++ drop u e) f)
+pass-fills {z} {u} {s} {s′} {e} {p} {r} h k long f q =
+    let front : length (take u e) ≡ u = length-take-le u e h in
+    let all : length (p ++ drop u e) ≡ length e = length-append p (drop u e) ∙ omega (arith, length-drop u e) in
+    record {
+      starts = k .starts;
+      entries =
+          marked (p ++ drop u e) f r u (omega (arith, k .within)) (omega arith) q
+          ∙ ap₂ (λ (m n : List ℕ). m ++ (replicate (u - r) free ++ n)) (take-append-le r p (drop u e) (omega (arith, k .within)) ∙ k .front) (drop-at p (drop u e) u (omega arith))
+          ∙ ap (λ (n : ℕ). others z (take u e) ++ (replicate (u - n) free ++ drop u e)) (k .count);
+    }

@@ -6,12 +6,10 @@ use mathlib.Core.List.{List, [], _∷_, _++_, map, map-map, map-append, List·Me
 use native.Mathlib.Omega.{arith}
 use native.Mathlib.Nat.{add-zero, add-suc, zero-add, div-add-mod'}
 use lib.Arith.{digits-div, digits-mod}
-use lib.ListN.{length, getD, take, drop, length-map, length-append, length-take, length-drop, List·getD-append}
-use lib.Seq.{getD-append-add, getD-drop, length-take-le}
+use lib.ListN.{length, getD, take, drop, length-map}
 use Rattle.order.specs.Order.{upto, span, keep}
 use Rattle.order.specs.Rising.{Rising, none, more}
 use Rattle.order.specs.RisingLaws.{rising-span, rising-keep, member-at}
-use Rattle.order.specs.Buffer.{rank}
 use Rattle.order.specs.Order.{Wrote}
 use Rattle.order.specs.BufferLaws.{take-over, drop-over, wrote-over, wrote-length}
 use Rattle.order.specs.KeepLaws.{span-add, span→, →span, keep→, →keep, keep-append, keep-ext, length-keep, length-span}
@@ -21,14 +19,14 @@ use Rattle.squares.specs.Bounds.{Allowed}
 use Rattle.squares.specs.Squares.{squares, squaresOn}
 use Rattle.cuts.specs.Cut.{inCut, code, cutOn, cutTo, cut}
 use Rattle.cuts.specs.CutLaws.{cut→}
-use Rattle.squares.specs.ShapeLaws.{squares-small, squares-few}
+use Rattle.squares.specs.ShapeLaws.{squares-small}
 use Rattle.tables.specs.Derived.{before, levelAt, numberAt}
 use Rattle.tables.specs.PlaceLaws.{before-more, before-none, before-all, level-place, number-place}
 use Rattle.starts.specs.RankLaws.{map-same}
 use Rattle.starts.specs.Starts.{ranks}
-use Rattle.starts.specs.Shift.{shifted, plus, Moved}
-use Rattle.tables.specs.RowLaws.{mapped-at}
+use Rattle.starts.specs.Shift.{plus, Moved}
 use Rattle.entries.specs.Merge.{Merged}
+use Rattle.entries.specs.FrontLaws.{keys-shown, starts-kept, starts-long, counted-all, counted-front, moved-after}
 use Rattle.entries.specs.Keys.{codePlace, codeKey, zoneKeys, Coded, KeyRoom, Keyed, AddRoom, KeysAdded}
 
 -- ---- shifted spans
@@ -154,38 +152,20 @@ module _ {s : Shape} {r : Rect} {z : ℕ} {b : List ℕ} (k : KeyRoom s r z b) w
         record { written = ap₂ _++_ m (d ∙ ap (λ (i : ℕ). drop i b) c); count = c; within = omega (arith, cut-count, cut-fits) }
 
 -- the keys merged from there
-module _ {s : Shape} {r : Rect} {z u : ℕ} {starts entries : List ℕ} (k : AddRoom s r z u starts entries) where
-  pub starts-few : length starts ≤ 87382
-  starts-few = omega (arith, k .places, squares-few s (k .shape))
+module _ {s : Shape} {r : Rect} {z u : ℕ} {starts entries : List ℕ} (k : AddRoom s r z u starts entries) {starts′ : List ℕ} {n : ℕ} (w : Keyed s r z starts starts′ n) where
+  pub merge-room : u + n ≤ length entries
+  merge-room = omega (arith, w .count, k .room, length-keys s r (k .shape) z)
 
-  module _ {starts′ : List ℕ} {n : ℕ} (w : Keyed s r z starts starts′ n) where
-    keys-shown : take n starts′ ≡ zoneKeys s r z
-    keys-shown = rw (w .written, w .count) (take-over (zoneKeys s r z) starts)
+  -- the starts after the keys guide the merge as they did
+  keys-merged : {e : List ℕ} → Merged starts′ entries e u (take n starts′) → Merged starts entries e u (zoneKeys s r z)
+  keys-merged {e} m =
+      let k = rw (keys-shown w) at m in
+      record { front = λ g. k .front (λ p a b i c d. g p a (omega (arith, starts-long w)) i (rw (starts-kept w p (omega (arith, w .count))) at c) d); rest = k .rest }
 
-    pub merge-room : u + length (take n starts′) ≤ length entries
-    merge-room = rw keys-shown (omega (arith, k .room, length-keys s r (k .shape) z))
-
-    pub front-few : (l : List ℕ) → length (take n l) ≤ 87382
-    front-few l = omega (arith, length-take n l, w .within, starts-few)
-
-    -- the starts after the keys are as they were
-    after-keys : (q : ℕ) → n ≤ q → getD starts′ q 0 ≡ getD starts q 0
-    after-keys q h =
-        let d = q - n in
-        let e : q ≡ length (zoneKeys s r z) + d = omega (arith, w .count) in
-        rw (w .written, e) (getD-append-add (zoneKeys s r z) (drop (length (zoneKeys s r z)) starts) d 0 ∙ getD-drop (length (zoneKeys s r z)) starts d 0)
-
-    pub keys-added : (e s′ l : List ℕ) → Merged entries e u (take n starts′) → Moved plus (take n starts′) n starts′ s′ → l ≡ ranks e (length (take n s′)) → length s′ ≡ length starts → KeysAdded s r z u starts (l ++ drop n s′) entries e
-    keys-added e s′ l m d q h =
-        let front : length (take n s′) ≡ n = length-take-le n s′ (omega (arith, w .within)) in
-        let shown : length l ≡ n = ap length q ∙ length-map (upto (length (take n s′))) (λ (p : ℕ). rank (p * 256) e) ∙ length-span 0 (length (take n s′)) ∙ front in
-        record {
-          merged = rw keys-shown at m;
-          long = rw (length-append l (drop n s′), length-drop n s′) (omega (arith, w .within));
-          counted = λ (p : ℕ) (a : p < length (zoneKeys s r z)). List·getD-append l (drop n s′) 0 p (omega (arith, w .count)) ∙ mapped-at l (λ (x : ℕ). rank (x * 256) e) (length (take n s′)) p q (omega (arith, w .count));
-          raised = λ (p : ℕ) (a : length (zoneKeys s r z) ≤ p) (b : p < length starts).
-              let i = p - n in
-              let x : p ≡ n + i = omega (arith, w .count) in
-              let y : p ≡ length l + i = omega (arith, w .count) in
-              ap (λ (v : ℕ). getD (l ++ drop n s′) v 0) y ∙ getD-append-add l (drop n s′) i 0 ∙ getD-drop n s′ i 0 ∙ ap (λ (v : ℕ). getD s′ v 0) (sym x) ∙ d .each p (omega (arith, w .count)) (omega (arith, d .long)) ∙ ap₂ (λ (v : List ℕ) (o : ℕ). shifted (rank (p * 256) v) o) keys-shown (after-keys p (omega (arith, w .count)));
-        }
+  pub keys-added : {e l f : List ℕ} → Merged starts′ entries e u (take n starts′) → Moved plus (take n starts′) n starts′ l → f ≡ ranks e (length (take n l)) → KeysAdded s r z u starts (f ++ drop n l) entries e
+  keys-added {e} {l} {f} m d q = record {
+    merged = keys-merged m;
+    long = counted-all w e d q;
+    counted = λ (p : ℕ) (a : p < length (zoneKeys s r z)). counted-front w e d q p (omega (arith, w .count));
+    raised = λ (p : ℕ) (a : length (zoneKeys s r z) ≤ p) (b : p < length starts). moved-after w e d q p (omega (arith, w .count)) b;
+  }

@@ -55,7 +55,7 @@ pub record AddRoom (s : Shape) (r : Rect) (z u : ℕ) (starts entries : List ℕ
   pub few : length entries ≤ mostEntries
 
 pub record KeysAdded (s : Shape) (r : Rect) (z u : ℕ) (starts starts′ entries entries′ : List ℕ) : Type 0 where
-  pub merged : Merged entries entries′ u (zoneKeys s r z)
+  pub merged : Merged starts entries entries′ u (zoneKeys s r z)
   pub long : length starts′ ≡ length starts
   pub counted : (q : ℕ) → q < length (zoneKeys s r z) → getD starts′ q 0 ≡ rank (q * 256) entries′
   pub raised : (q : ℕ) → length (zoneKeys s r z) ≤ q → q < length starts → getD starts′ q 0 ≡ shifted (rank (q * 256) (zoneKeys s r z)) (getD starts q 0)

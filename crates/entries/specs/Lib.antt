@@ -1,6 +1,10 @@
-pub mod Drops
 pub mod Merge
 pub mod Keys
+pub mod Drops
+pub mod Gaps
 pub mod MergeLaws
+pub mod FrontLaws
 pub mod KeyLaws
 pub mod DropLaws
+pub mod GapLaws
+pub mod ListedLaws

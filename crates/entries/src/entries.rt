@@ -1,11 +1,13 @@
-// The entries without the keys of one zone, and the starts that go with them.
+// The keys of one zone taken out of the entries in one pass, the starts with them.
 use starts::place_after;
 use starts::shift_to;
 use tables::fill_words;
-ghost use Rattle.entries.specs.Drops.{Packed, Drops};
+ghost use Prim.Native.Nat.{_≤_};
+ghost use lib.ListN.{length};
+ghost use Rattle.entries.specs.Drops.{Packed, Passed};
 
 // The free mark.
-const FREE: u32 = 4294967295;
+pub const FREE: u32 = 4294967295;
 
 // Moves the keys that are not of zone z to the front, in order, and the starts after each key of zone z down by one more.
 // Answers how many keys are left.
@@ -32,11 +34,12 @@ fn pack_keys(starts: &mut [u32], entries: &mut [u32], z: u32) -> usize
     kept
 }
 
-// Takes the keys of zone z out: the others keep their order, and free marks stand after them.
+// Takes the keys of zone z out of the first u entries: the others keep their order, and free marks stand after them.
 // Each start goes down, around 2^32, by how many of the keys before its place are gone.
-pub fn drop_keys(starts: &mut [u32], entries: &mut [u32], z: u32)
-    ensures { λ _. ⌜ Drops z (now (starts .entry)) (now (starts .exit)) (now (entries .entry)) (now (entries .exit)) ⌝ }
+pub fn pass_keys(starts: &mut [u32], entries: &mut [u32], z: u32, u: usize)
+    requires { ⌜ u ≤ length (now entries) ⌝ }
+    ensures { λ _. ⌜ Passed z u (now (starts .entry)) (now (starts .exit)) (now (entries .entry)) (now (entries .exit)) ⌝ }
 {
-    let kept = pack_keys(starts, entries, z);
-    fill_words(&mut entries[kept..], FREE);
+    let kept = pack_keys(starts, &mut entries[..u], z);
+    fill_words(&mut entries[kept..u], FREE);
 }

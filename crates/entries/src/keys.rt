@@ -34,7 +34,7 @@ fn key_codes(s: Shape, z: u32, codes: &mut [u32])
 }
 
 // Writes the keys of zone z with rectangle r to the front of a buffer. Answers how many they are.
-fn write_keys(s: Shape, r: Rect, z: u32, keys: &mut [u32]) -> usize
+pub fn write_keys(s: Shape, r: Rect, z: u32, keys: &mut [u32]) -> usize
     requires { ⌜ KeyRoom s r z (now keys) ⌝ }
     ensures { λ n. ⌜ Keyed s r z (now (keys .entry)) (now (keys .exit)) n ⌝ }
 {
@@ -50,7 +50,7 @@ pub fn add_keys(s: Shape, r: Rect, z: u32, u: usize, starts: &mut [u32], entries
     ensures { λ _. ⌜ KeysAdded s r z u (now (starts .entry)) (now (starts .exit)) (now (entries .entry)) (now (entries .exit)) ⌝ }
 {
     let n = write_keys(s, r, z, starts);
-    merge_keys(entries, u, &starts[..n]);
+    merge_keys(starts, n, entries, u);
     raise_starts(starts, n);
     set_starts(&mut starts[..n], entries);
 }

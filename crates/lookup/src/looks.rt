@@ -60,10 +60,9 @@ pub fn cross(
     ensures { λ r. ⌜ Crosses s (now (zones .entry)) (now (starts .entry)) (now (entries .entry)) x y column row (now (entered .entry)) (now (entered .exit)) (now (left .entry)) (now (left .exit)) r ⌝ }
 {
     let k = s.k;
-    let units = s.numbers(k, x, y, column, row);
     let differing = squares::steps_apart(k, x, y, column, row);
-    let mut old = tables::place_of(s, k, units.first);
-    let mut new = tables::place_of(s, k, units.second);
+    let mut old = tables::place_of(s, k, s.number(k, x, y));
+    let mut new = tables::place_of(s, k, s.number(k, column, row));
     let mut up = 0u32;
     let mut came = 0usize;
     let mut gone = 0usize;

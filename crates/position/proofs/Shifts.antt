@@ -2,13 +2,11 @@
 use Prim.Native.Nat.{ℕ, _+_, _-_, _*_, _/_, _^_, _≤_, _<_}
 use mathlib.Core.Path.{_≡_, sym, ap, _∙_}
 use mathlib.Core.Logic.{⊎-elim}
-use mathlib.Core.Bool.{true, false}
-use native.Mathlib.Nat.{eq-zero-or-pos, mod-lt, mul-assoc, mul-le-mul, mul-lt-mul-of-pos-left, mul-lt-mul-of-pos-right, eq-of-mul-eq-mul-right, div-eq-of-lt, lt-of-lt-of-le, lt-of-le-of-lt, ne-of-lt, le-refl}
+use native.Mathlib.Nat.{eq-zero-or-pos, mod-lt, mul-le-mul, mul-lt-mul-of-pos-left, mul-lt-mul-of-pos-right, div-eq-of-lt, lt-of-lt-of-le, lt-of-le-of-lt, le-refl}
 use native.Mathlib.Omega.{arith}
-use lib.Pow.{pow-pos, pow-mono, pow-lt, pow-add, shl-lt, shl-shr, shr-shr}
-use lib.Dec.{lit≤, eqb}
-use borrow.Author.Tests.{eq-eqb, ne-eqb, eqb-true}
-use Rattle.order.specs.TestLaws.{lt-or-le, both-ways}
+use lib.Pow.{pow-pos, pow-mono, pow-lt, shl-lt, shl-shr, shr-shr}
+use lib.Dec.{lit≤}
+use Rattle.order.specs.TestLaws.{lt-or-le}
 use Rattle.position.specs.Cell.{exponent, fraction, whole}
 use Rattle.position.specs.Exact.{whole-zero, whole-some}
 
@@ -36,8 +34,8 @@ module _ (bits e : ℕ) (field : e ≡ exponent bits) where
       (λ (p : 0 < e). let l : 24 + (e - 1) ≤ 149 = omega arith in rw (normal p) (lt-of-lt-of-le (shl-lt 24 (e - 1) (digits-lt bits)) (pow-mono l)))
       (eq-zero-or-pos e)
 
-  pub floor-small : e < 127 → 0 ≡ whole bits / 2 ^ 149
-  floor-small h = sym (div-eq-of-lt (small h))
+  pub floor-small : (j : ℕ) → e < 127 → 24 ≤ j → digits bits / 2 ^ j ≡ whole bits / 2 ^ 149
+  floor-small j h g = div-eq-of-lt (lt-of-lt-of-le (digits-lt bits) (pow-mono g)) ∙ sym (div-eq-of-lt (small h))
 
   -- ---- from 1 on
 
@@ -45,21 +43,6 @@ module _ (bits e : ℕ) (field : e ≡ exponent bits) where
   floor-down a b =
       let k : 149 ≡ e - 1 + (150 - e) = omega arith in
       sym (ap (λ (n : ℕ). n / 2 ^ 149) (normal (omega arith)) ∙ ap (λ (i : ℕ). digits bits * 2 ^ (e - 1) / 2 ^ i) k ∙ down-more (digits bits) (e - 1) (150 - e))
-
-  -- ---- a whole number c of at least 1: the digits are c shifted up
-
-  pub is-small : (c : ℕ) → 0 < c → e < 127 → false ≡ eqb (whole bits) (c * 2 ^ 149)
-  is-small c some h = sym (ne-eqb _ _ (ne-of-lt (lt-of-lt-of-le (small h) (mul-le-mul some (le-refl (2 ^ 149))))))
-
-  shifted : (c : ℕ) → 127 ≤ e → e < 150 → c * 2 ^ 149 ≡ c * 2 ^ (150 - e) * 2 ^ (e - 1)
-  shifted c a b =
-      let k : 149 ≡ 150 - e + (e - 1) = omega arith in
-      ap (λ (i : ℕ). c * 2 ^ i) k ∙ ap (λ (n : ℕ). c * n) (pow-add 2 (150 - e) (e - 1)) ∙ sym (mul-assoc c (2 ^ (150 - e)) (2 ^ (e - 1)))
-
-  pub is-whole : (c : ℕ) → 127 ≤ e → e < 150 → eqb (digits bits) (c * 2 ^ (150 - e)) ≡ eqb (whole bits) (c * 2 ^ 149)
-  is-whole c a b = rw (shifted c a b, normal (omega arith)) (both-ways _ _
-      (λ (h : eqb (digits bits) (c * 2 ^ (150 - e)) ≡ true). eq-eqb _ _ (ap (λ (n : ℕ). n * 2 ^ (e - 1)) (eqb-true _ _ h)))
-      (λ (h : eqb (digits bits * 2 ^ (e - 1)) (c * 2 ^ (150 - e) * 2 ^ (e - 1)) ≡ true). eq-eqb _ _ (eq-of-mul-eq-mul-right (2 ^ (e - 1)) (pow-pos (e - 1)) _ _ (eqb-true _ _ h))))
 
   -- ---- above 256: past every side
 

@@ -1,75 +1,75 @@
--- What the code's tests say of `inRange` and of the cell. Assumes nothing.
-use Prim.Native.Nat.{ℕ, suc, _+_, _-_, _*_, _/_, _^_, _≤_, _<_}
-use mathlib.Core.Path.{_≡_, refl}
+-- The floats of a whole side are those on the map, and the cell of one is that of its bits without the sign. Assumes nothing.
+use Prim.Native.Nat.{ℕ, _+_, _-_, _*_, _%_, _^_, _≤_, _<_, zero-le, min}
+use mathlib.Core.Path.{_≡_, refl, sym, _∙_}
 use mathlib.Core.Logic.{⊎-elim}
-use mathlib.Core.Bool.{true, false, and-false}
-use native.Mathlib.Nat.{mul-pos, min-eq-left, le-of-lt, le-of-eq, le-antisymm, div-lt-iff-lt-mul, le-div-iff-mul-le}
+use mathlib.Core.Bool.{true, false, not, _&&_, _||_, and-true}
+use native.Mathlib.Nat.{min-eq-left, min-eq-right, lt-irrefl, lt-of-lt-of-le}
 use native.Mathlib.Omega.{arith}
-use lib.Pow.{pow-pos}
-use borrow.Author.Tests.{ne-eqb, lt-ltb, le-ltb, le-leb, lt-leb}
-use Rattle.order.specs.TestLaws.{lt-or-le}
-use Rattle.position.specs.Cell.{exponent, fraction, whole, inRange}
-use Rattle.position.specs.Spots.{bitsOn}
-use Rattle.position.specs.Exact.{whole-zero, whole-some, at-end}
+use lib.Dec.{T, ltb, leb, eqb}
+use lib.Ieee.{Float, binary32, toBits, isNan, fits}
+use borrow.Author.Tests.{le-leb, lt-ltb, leb-true}
+use Rattle.order.specs.TestLaws.{lt-or-le, and→}
+use Rattle.position.specs.Cell.{exponent, fraction, whole, inRange, onMap, cellIn, cellOf}
+use Rattle.position.specs.Spots.{coordinateOn, Side}
+use Rattle.position.specs.Band.{Stretch, bandOf, inBand}
+use Rattle.position.specs.BandLaws.{band-cell}
+use Rattle.position.specs.Laws.{cell-below}
 use Rattle.position.specs.declared.Coordinate.{Coordinate}
 use Rattle.position.proofs.Shifts.{past}
 
--- ---- past the side, or below 0
+-- ---- the sign bit apart
 
--- the value is above the side
-beyond : (side bits : ℕ) → side * 2 ^ 149 < whole bits → inRange side bits ≡ false
-unfolding inRange
-beyond side bits h = rw (lt-leb _ _ h, and-false)
+whole-sign : (bits : ℕ) → whole (bits % 2 ^ 31) ≡ whole bits
+unfolding whole
+whole-sign bits =
+    let e : exponent (bits % 2 ^ 31) ≡ exponent bits = omega arith in
+    let f : fraction (bits % 2 ^ 31) ≡ fraction bits = omega arith in
+    rw (e, f)
 
--- with the sign bit set n is 0 of minus zero alone
-minus-zero : (bits : ℕ) → bits < 2 ^ 32 → 2 ^ 31 ≤ bits → whole bits ≡ 0 → bits ≡ 2 ^ 31
-minus-zero bits h g z = ⊎-elim
-    (λ (l : exponent bits < 1). let e : exponent bits ≡ 0 = omega arith in omega (arith, whole-zero bits e))
-    (λ (l : 1 ≤ exponent bits).
-    let e : exponent bits ≡ suc (exponent bits - 1) = omega arith in
-    absurd (omega (arith, whole-some bits (exponent bits - 1) e, mul-pos {m = 2 ^ 23 + fraction bits} {n = 2 ^ (exponent bits - 1)} (omega arith) (pow-pos (exponent bits - 1)))))
-    (lt-or-le (exponent bits) 1)
+-- ---- the smaller of a floor and the last cell
 
--- the bits are above those of 256, and not those of minus zero: the value is below 0, or past every side
-pub far : (side bits : ℕ) → side ≤ 256 → bits < 2 ^ 32 → (bits ≡ 2 ^ 31 → ⊥) → 135 * 2 ^ 23 < bits → inRange side bits ≡ false
-unfolding inRange
-far side bits h b f g = ⊎-elim
-    (λ (l : bits < 2 ^ 31). beyond side bits (past bits (exponent bits) refl side g l h))
-    (λ (l : 2 ^ 31 ≤ bits). rw (le-ltb _ _ l, ne-eqb (whole bits) 0 (λ (z : whole bits ≡ 0). f (minus-zero bits b l z)), and-false))
-    (lt-or-le bits (2 ^ 31))
+pub before-last : (cell side : ℕ) → cell < side → cell ≡ min cell (side - 1)
+before-last cell side h = let l : cell ≤ side - 1 = omega arith in sym (min-eq-left l)
 
--- minus zero is where zero is
-pub minus-zero-cell : (side bits : ℕ) → bits ≡ 2 ^ 31 → bitsOn side 0 ≡ bitsOn side bits
-unfolding inRange whole
-minus-zero-cell side bits e = rw e
+pub is-last : (cell side : ℕ) → side ≤ cell → side - 1 ≡ min cell (side - 1)
+is-last cell side h = let l : side - 1 ≤ cell = omega arith in sym (min-eq-right l)
 
--- ---- up to 256
+module _ {side : ℕ} (h : Side side) where
+  pub whole-side : Stretch 0 side side
+  whole-side = record { some = h .some; within = omega arith; small = h .small }
 
-at-most-last : (cell side : ℕ) → cell < side → cell ≤ side - 1
-at-most-last cell side h = omega arith
+  module _ (x : Float) (held : T (fits binary32 x)) where
+    pub on-side : inBand (bandOf 0 side side) x ≡ onMap side x
+    on-side =
+        let cell : cellOf side x < 0 + side = omega (arith, cell-below side x (h .some)) in
+        band-cell 0 side side whole-side x held ∙ rw (le-leb 0 (cellOf side x) zero-le, lt-ltb _ _ cell, and-true)
 
-module _ (side bits : ℕ) (few : bits ≤ 135 * 2 ^ 23) where
-  -- the value is at most the side
-  on-side : whole bits ≤ side * 2 ^ 149 → inRange side bits ≡ true
-  unfolding inRange
-  on-side h =
-      let finite : exponent bits < 255 = omega arith in
-      let clear : bits < 2 ^ 31 = omega arith in
-      rw (lt-ltb _ _ finite, lt-ltb _ _ clear, le-leb _ _ h)
+    pub off-side : inBand (bandOf 0 side side) x ≡ false → Coordinate.Off ≡ coordinateOn side x
+    unfolding coordinateOn
+    off-side e = rw (sym on-side ∙ e)
 
-  -- its floor is below the side
-  pub below-side : (cell : ℕ) → cell ≡ whole bits / 2 ^ 149 → cell < side → Coordinate.Cell cell ≡ bitsOn side bits
-  below-side cell floor h =
-      let l = rw floor at h in
-      rw (on-side (le-of-lt (div-lt-iff-lt-mul (pow-pos 149) .0 l)), min-eq-left (at-most-last _ side l), floor)
+    module _ (on : inBand (bandOf 0 side side) x ≡ true) where
+      parts : (not (isNan x) ≡ true) × (inRange side (toBits binary32 x) ≡ true)
+      unfolding onMap
+      parts = and→ (not (isNan x)) (inRange side (toBits binary32 x)) (sym on-side ∙ on)
 
-  -- it is the side
-  pub is-side : whole bits ≡ side * 2 ^ 149 → Coordinate.Cell (side - 1) ≡ bitsOn side bits
-  is-side h = rw (on-side (le-of-eq h), at-end (whole bits) (2 ^ 149) side (pow-pos 149) h)
+      pub is-number : T (not (isNan x))
+      is-number = rw (parts .0) tt
 
-  -- its floor is not below the side, and it is not the side
-  pub above-side : (cell : ℕ) → cell ≡ whole bits / 2 ^ 149 → side ≤ cell → (whole bits ≡ side * 2 ^ 149 → ⊥) → Coordinate.Off ≡ bitsOn side bits
-  above-side cell floor h f = ⊎-elim
-      (λ (l : side * 2 ^ 149 < whole bits). rw (beyond side bits l))
-      (λ (l : whole bits ≤ side * 2 ^ 149). absurd (f (le-antisymm l (le-div-iff-mul-le (pow-pos 149) .0 (rw floor at h)))))
-      (lt-or-le (side * 2 ^ 149) (whole bits))
+      at-most : whole (toBits binary32 x) ≤ side * 2 ^ 149
+      unfolding inRange
+      at-most =
+          let bits = toBits binary32 x in
+          leb-true _ _ (and→ (ltb (exponent bits) 255 && (ltb bits (2 ^ 31) || eqb (whole bits) 0)) (leb (whole bits) (side * 2 ^ 149)) (parts .1) .1)
+
+      pub bits-few : toBits binary32 x % 2 ^ 31 ≤ 135 * 2 ^ 23
+      bits-few =
+          let b = toBits binary32 x % 2 ^ 31 in
+          ⊎-elim
+          (λ (l : 135 * 2 ^ 23 < b). let g : b < 2 ^ 31 = omega arith in absurd (lt-irrefl _ (lt-of-lt-of-le (rw (whole-sign (toBits binary32 x)) at (past b (exponent b) refl side l g (h .small))) at-most)))
+          (λ (l : b ≤ 135 * 2 ^ 23). l)
+          (lt-or-le (135 * 2 ^ 23) b)
+
+      pub cell-is : {r : ℕ} → r ≡ cellIn side (toBits binary32 x % 2 ^ 31) → Coordinate.Cell r ≡ coordinateOn side x
+      unfolding coordinateOn cellOf
+      cell-is {r} e = rw (sym on-side ∙ on, e, whole-sign (toBits binary32 x))

@@ -17,7 +17,7 @@ use Rattle.position.specs.declared.Spot.{Spot}
 
 -- ---- a position's cell is a cell of the town
 
-cell-below : (side : ℕ) (x : Float) → 0 < side → cellOf side x < side
+pub cell-below : (side : ℕ) (x : Float) → 0 < side → cellOf side x < side
 unfolding cellOf
 cell-below side x h = let last : side - 1 < side = omega arith in lt-of-le-of-lt (min-le-right (whole (toBits binary32 x) / 2 ^ 149) (side - 1)) last
 

@@ -1,12 +1,19 @@
 // A float's cell (document 01, "Positions"): whether a coordinate is on the map, and in which cell.
-// Only a NaN is told apart as a float. The rest is worked out on the bits, in whole numbers.
+// Whether it is on the map is told by comparing floats; the cell is worked out on the bits, in whole numbers.
+mod band; // band.rt: the floats of a stretch of cells
+
+pub use band::Band;
+use band::band_of;
+pub use band::columns_of;
+use band::in_band;
+pub use band::in_bands;
+pub use band::rows_of;
 use squares::Shape;
 ghost use mathlib.Core.Path.{_≡_};
 ghost use Prim.Native.Nat.{_+_, _*_, _/_, _^_, _≤_};
-ghost use lib.Dec.{eqb};
 ghost use lib.Ieee.{binary32, ofBits};
-ghost use Rattle.position.specs.Cell.{fraction, whole};
-ghost use Rattle.position.specs.Spots.{coordinateOn, spotOn, bitsOn, Side};
+ghost use Rattle.position.specs.Cell.{fraction, whole, cellIn};
+ghost use Rattle.position.specs.Spots.{coordinateOn, spotOn, Side, Down};
 
 // Two coordinates kept together: x counts from the west wall, y from the south wall.
 pub struct Position {
@@ -54,48 +61,29 @@ pub fn float_of(bits: u32) -> f32
     f32::from_bits(bits)
 }
 
-// The cell of any float, on a side of a town. A NaN has no bits to ask for.
+// The cell of any float, on a side of a town: off the map a NaN, what is below 0 and what is past the wall.
 pub fn cell_of(x: f32, side: u32) -> Coordinate
     requires { ⌜ Side side ⌝ }
     ensures { λ r. ⌜ r ≡ coordinateOn side x ⌝ }
 {
-    if x != x {
+    if !in_band(band_of(0, side, side), x) {
         return Coordinate::Off;
     }
-    cell_of_bits(f32::to_bits(x), side)
-}
-
-// The cell of the number with these bits.
-fn cell_of_bits(bits: u32, side: u32) -> Coordinate
-    requires { ⌜ Side side ⌝ }
-    ensures { λ r. ⌜ r ≡ bitsOn side bits ⌝ }
-{
-    // minus zero is zero
-    if bits == 0x8000_0000 {
-        return cell_or_wall(0, side);
-    }
-    // above 256, an infinity, or below 0
-    if 0x4380_0000 < bits {
-        return Coordinate::Off;
-    }
-    cell_or_wall(bits, side)
+    Coordinate::Cell(cell_in(f32::to_bits(x) % 0x8000_0000, side))
 }
 
 // The cell of the number with these bits, which is at most 256, its sign bit clear: its floor, and at
 // the wall the last one.
-fn cell_or_wall(bits: u32, side: u32) -> Coordinate
+fn cell_in(bits: u32, side: u32) -> u32
     requires { ⌜ Side side ⌝ }
     requires { ⌜ bits ≤ 135 * 2 ^ 23 ⌝ }
-    ensures { λ r. ⌜ r ≡ bitsOn side bits ⌝ }
+    ensures { λ r. ⌜ r ≡ cellIn side bits ⌝ }
 {
     let cell = floor(bits);
     if cell < side {
-        return Coordinate::Cell(cell);
+        return cell;
     }
-    if at_wall(bits, side) {
-        return Coordinate::Cell(side - 1);
-    }
-    Coordinate::Off
+    side - 1
 }
 
 // The greatest whole number not above the value of these bits, which is at most 256: the exponent is
@@ -104,24 +92,18 @@ fn floor(bits: u32) -> u32
     requires { ⌜ bits ≤ 135 * 2 ^ 23 ⌝ }
     ensures { λ r. ⌜ r ≡ whole bits / 2 ^ 149 ⌝ }
 {
-    let e = bits >> 23;
-    if e < 127 {
-        return 0;
-    }
-    digits(bits) >> (150 - e)
+    digits(bits) >> shift_of(bits >> 23)
 }
 
-// Whether the value of these bits, which is at most 256, is the side itself.
-fn at_wall(bits: u32, side: u32) -> bool
-    requires { ⌜ Side side ⌝ }
-    requires { ⌜ bits ≤ 135 * 2 ^ 23 ⌝ }
-    ensures { λ r. ⌜ r ≡ eqb (whole bits) (side * 2 ^ 149) ⌝ }
+// By how much the 24 digits are shifted down: below 1 all of them are shifted out.
+fn shift_of(e: u32) -> u32
+    requires { ⌜ e ≤ 135 ⌝ }
+    ensures { λ r. ⌜ Down e r ⌝ }
 {
-    let e = bits >> 23;
-    if e < 127 {
-        return false;
+    if e < 119 {
+        return 31;
     }
-    digits(bits) == side << (150 - e)
+    150 - e
 }
 
 // The fraction field below its leading 1.

@@ -26,9 +26,10 @@ rowIn s cars spots r many = map (λ (c : ℕ). bit (carWithin s cars spots r c))
 abbrev pub countIn : Shape → List ℕ → List Float → Rect → ℕ → ℕ
 countIn s cars spots r many = length (keep (carWithin s cars spots r) (upto many))
 
-pub record Marks (s : Shape) (cars : List ℕ) (spots : List Float) (r : Rect) (row row′ : List ℕ) (n : ℕ) : Type 0 where
-  pub written : row′ ≡ rowIn s cars spots r (length row)
-  pub count : n ≡ countIn s cars spots r (length row)
+-- each byte of a row set by a test, which n of its cars pass
+pub record Marks (p : ℕ → Bool) (row row′ : List ℕ) (n : ℕ) : Type 0 where
+  pub written : row′ ≡ map (λ (c : ℕ). bit (p c)) (upto (length row))
+  pub count : n ≡ length (keep p (upto (length row)))
 
 pub record RowMarked (s : Shape) (cars : List ℕ) (spots : List Float) (r : Rect) (rosters rosters′ : List ℕ) (z many n : ℕ) : Type 0 where
   pub written : rosters′ ≡ sets rosters (z * many) (rowIn s cars spots r many)

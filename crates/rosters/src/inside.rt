@@ -1,39 +1,19 @@
 // The cars in a rectangle, marked on a row of the rosters.
-use position::Spot;
-use position::locate;
+use position::Band;
+use position::columns_of;
+use position::rows_of;
 use squares::Rect;
 use squares::Shape;
-use tables::placed_in;
-use tables::spot_in;
-ghost use Prim.Native.Nat.{_<_};
+use tables::car_between;
+ghost use Prim.Native.Nat.{_*_};
 ghost use mathlib.Core.Path.{_≡_};
 ghost use lib.ListN.{length};
 ghost use Rattle.order.specs.Sums.{bit};
 ghost use Rattle.squares.specs.Bounds.{Fits};
-ghost use Rattle.rosters.specs.Inside.{carWithin, Marks, RowMarked};
+ghost use Rattle.rosters.specs.Inside.{Marks, RowMarked};
+ghost use Rattle.tables.specs.Slots.{carBetween};
 ghost use Rattle.tables.specs.Rows.{RowThere};
 ghost use Rattle.tables.specs.Asks.{Parked};
-
-// Whether a car is placed, on the map, and in a rectangle. The four tests of its cell are made without
-// a branch, since which one fails changes from car to car.
-fn car_within(s: Shape, cars: &[u32], spots: &[f32], r: Rect, C: usize, c: usize) -> bool
-    requires { ⌜ Parked s (now cars) (now spots) C ⌝ }
-    requires { ⌜ c < C ⌝ }
-    requires { ⌜ Fits s r ⌝ }
-    ensures { λ t. ⌜ t ≡ carWithin s (now (cars .entry)) (now (spots .entry)) r c ⌝ }
-{
-    if !placed_in(cars, c) {
-        return false;
-    }
-    let Spot::Cell(column, row) = locate(s, spot_in(spots, c)) else {
-        return false;
-    };
-    let west = r.a <= column;
-    let east = column < r.a + r.w;
-    let south = r.b <= row;
-    let north = row < r.b + r.h;
-    west & (east & (south & north))
-}
 
 // The byte that says yes or no.
 fn byte_of(yes: bool) -> u8
@@ -45,17 +25,17 @@ fn byte_of(yes: bool) -> u8
     0
 }
 
-// Sets the byte of each car of a row. Answers how many are in the rectangle.
-fn mark_cars(s: Shape, cars: &[u32], spots: &[f32], r: Rect, row: &mut [u8]) -> usize
-    requires { ⌜ Parked s (now cars) (now spots) (length (now row)) ⌝ }
-    requires { ⌜ Fits s r ⌝ }
-    ensures { λ n. ⌜ Marks s (now (cars .entry)) (now (spots .entry)) r (now (row .entry)) (now (row .exit)) n ⌝ }
+// Sets the byte of each car of a row. Answers how many are in the cells of two bands.
+fn mark_cars(cars: &[u32], spots: &[f32], columns: Band, rows: Band, row: &mut [u8]) -> usize
+    requires { ⌜ length (now cars) ≡ length (now row) ⌝ }
+    requires { ⌜ length (now spots) ≡ 2 * length (now row) ⌝ }
+    ensures { λ n. ⌜ Marks (carBetween (now (cars .entry)) (now (spots .entry)) columns rows) (now (row .entry)) (now (row .exit)) n ⌝ }
 {
     let many = row.len();
     let mut inside = 0usize;
     let mut c = 0;
     while c < many {
-        let byte = byte_of(car_within(s, cars, spots, r, many, c));
+        let byte = byte_of(car_between(cars, spots, columns, rows, c));
         row[c] = byte;
         inside += byte as usize;
         c += 1;
@@ -80,5 +60,7 @@ pub fn fill_row(
 {
     let from = z * many as usize;
     let end = from + many as usize;
-    mark_cars(s, cars, spots, r, &mut rosters[from..end])
+    let columns = columns_of(s, r);
+    let rows = rows_of(s, r);
+    mark_cars(cars, spots, columns, rows, &mut rosters[from..end])
 }

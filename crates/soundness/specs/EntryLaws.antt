@@ -11,13 +11,14 @@ use borrow.Author.Tests.{lt-ltb, le-ltb}
 use Rattle.squares.specs.declared.shape.Shape.{Shape}
 use Rattle.squares.specs.declared.shape.Rect.{Rect}
 use Rattle.squares.specs.declared.shape.Square.{Square}
-use Rattle.squares.specs.Squares.{squares, squaresOn}
+use Rattle.squares.specs.Squares.{squares, sideOn, squaresOn, cornerX, cornerY}
 use Rattle.squares.specs.Made.{squareOf}
 use Rattle.squares.specs.Shape.{within}
 use Rattle.cuts.specs.Cut.{inside, inCut}
 use Rattle.squares.specs.Leaves.{Near}
 use Rattle.squares.specs.ShapeLaws.{blocks-small, squares-small}
 use Rattle.squares.specs.SquareLaws.{corner-x-fits, corner-y-fits}
+use Rattle.squares.specs.CornerLaws.{side-halves, child-x, child-y}
 use Rattle.tables.specs.Tables.{rectIn}
 use Rattle.tables.specs.Derived.{before, levelAt, numberAt}
 use Rattle.tables.specs.PlaceLaws.{before-more, before-none, before-all, level-place, number-place}
@@ -85,6 +86,37 @@ module _ {s : Shape} {r : Rect} {i n : ℕ} where
       let e : i ≡ suc (i - 1) = omega arith in
       let more : squaresOn s i ≡ 4 * squaresOn s (i - 1) = ap (squaresOn s) e ∙ rw (pow-succ' 4 (i - 1)) (mul-left-comm (s .P * s .Q) 4 (4 ^ (i - 1))) in
       record { shape = h .shape; rect = h .rect; level = omega (arith, h .level); number = omega (arith, h .number, more) }
+
+-- a square that is not on level 0, by its parent, which begins a side before its eastern two and its northern two
+pub record Quarter (s : Shape) (i n : ℕ) (q : Square) : Type 0 where
+  pub x : q .x ≡ cornerX s (i - 1) (n / 4) + n % 2 * q .side
+  pub y : q .y ≡ cornerY s (i - 1) (n / 4) + n / 2 % 2 * q .side
+  pub side : sideOn s (i - 1) ≡ 2 * q .side
+  pub near : (q .x + q .side ≤ 256) × (q .y + q .side ≤ 256)
+
+pub quarter : {s : Shape} {r : Rect} {i n : ℕ} → Both s r i n → (i ≡ 0 → ⊥) → (q : Square) → q ≡ squareOf s i n → Quarter s i n q
+quarter {s} {r} {i} {n} h f q e =
+    let up : suc (i - 1) ≡ i = omega arith in
+    let deep : suc (i - 1) ≤ s .k = omega (arith, h .level) in
+    let whole : 4 * (n / 4) + n % 4 ≡ n = omega arith in
+    let east : n % 4 % 2 ≡ n % 2 = omega arith in
+    let north : n % 4 / 2 ≡ n / 2 % 2 = omega arith in
+    let close = near-square h q e in
+    record {
+      x = rw e (rw (up, whole, east) at (child-x s (i - 1) (n / 4) (n % 4) deep (omega arith)));
+      y = rw e (rw (up, whole, north) at (child-y s (i - 1) (n / 4) (n % 4) deep (omega arith)));
+      side = rw e (rw up at (side-halves s (i - 1) deep));
+      near = (close .right, close .over);
+    }
+
+abbrev pub parentOf : ℕ → Square → Square
+parentOf n q = record { x = q .x - n % 2 * q .side; y = q .y - n / 2 % 2 * q .side; side = 2 * q .side }
+
+pub parent-square : (s : Shape) (i n : ℕ) (q : Square) → Quarter s i n q → parentOf n q ≡ squareOf s (i - 1) (n / 4)
+parent-square s i n q h =
+    let a : q .x - n % 2 * q .side ≡ cornerX s (i - 1) (n / 4) = omega (arith, h .x) in
+    let b : q .y - n / 2 % 2 * q .side ≡ cornerY s (i - 1) (n / 4) = omega (arith, h .y) in
+    rw (a, b, h .side)
 
 module _ (s : Shape) (r : Rect) where
   pub cut-outside : (i n : ℕ) → inside s r i n ≡ false → inCut s r i n ≡ false

@@ -4,6 +4,7 @@ pub mod EveryLaws
 pub mod StartLaws
 pub mod ZoneLaws
 pub mod CarLaws
+pub mod RosterLaws
 pub mod EntryLaws
 pub mod SoundnessLaws
 pub mod SweepLaws

@@ -88,6 +88,13 @@ townIn s zones cars spots = record { opening = record { shape = s; zones = 0; ca
 unfoldable pub has : Shape → List ℕ → List ℕ → List Float → ℕ → ℕ → Bool
 has s zones cars spots z c = holdsCar (townIn s zones cars spots) z c
 
+-- the bytes of a row say yes or no as p does
+abbrev pub saysAt : List ℕ → (ℕ → Bool) → ℕ → Bool
+saysAt row p c = eqb (getD row c 0) (bit (p c))
+
+unfoldable pub says : List ℕ → (ℕ → Bool) → Bool
+says row p = every (saysAt row p) (length row)
+
 unfoldable pub byteRight : Shape → List ℕ → List ℕ → List Float → List ℕ → ℕ → ℕ → Bool
 byteRight s zones cars spots rosters C i = eqb (getD rosters i 0) (bit (has s zones cars spots (i / C) (i % C)))
 

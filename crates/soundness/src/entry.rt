@@ -3,7 +3,7 @@ use squares::Rect;
 use squares::Shape;
 use tables::rect_in;
 ghost use mathlib.Core.Path.{_≡_};
-ghost use Rattle.cuts.specs.Cut.{inside, inCut};
+ghost use Rattle.cuts.specs.Cut.{inCut};
 ghost use Rattle.soundness.specs.Tests.{InTown, At, Both, Fitting, keyRight};
 
 // A square by its level and its number there.
@@ -31,27 +31,22 @@ pub fn square_at(s: Shape, p: u32) -> Leveled
     Leveled { level, number }
 }
 
-// Whether a square lies wholly inside a rectangle.
-fn is_inside(s: Shape, r: Rect, level: u32, n: u32) -> bool
-    requires { ⌜ Both s r level n ⌝ }
-    ensures { λ t. ⌜ t ≡ inside s r level n ⌝ }
-{
-    let q = s.square(level, n);
-    r.within(q.x, q.y, q.side)
-}
-
-// Whether a square is in the cut of a rectangle.
+// Whether a square is in the cut of a rectangle. The parent begins where the square does, or a side before
+// it: west of its eastern two squares, south of its northern two.
 pub fn in_cut(s: Shape, r: Rect, level: u32, n: u32) -> bool
     requires { ⌜ Both s r level n ⌝ }
     ensures { λ t. ⌜ t ≡ inCut s r level n ⌝ }
 {
-    if !is_inside(s, r, level, n) {
+    let q = s.square(level, n);
+    if !r.within(q.x, q.y, q.side) {
         return false;
     }
     if level == 0 {
         return true;
     }
-    !is_inside(s, r, level - 1, n / 4)
+    let x = q.x - n % 2 * q.side;
+    let y = q.y - n / 2 % 2 * q.side;
+    !r.within(x, y, 2 * q.side)
 }
 
 // Whether a key is one of those in use by the zones.

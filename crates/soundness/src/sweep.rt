@@ -1,6 +1,7 @@
-// Soundness: the zones, the cars and the rosters, and all together.
+// Soundness: the zones and the cars, and all together.
 use crate::lists::entries_right;
 use crate::lists::starts_right;
+use crate::roster::rosters_right;
 use crate::tally::tallies_right;
 use order::wide;
 use position::Spot;
@@ -12,15 +13,12 @@ use tables::rect_in;
 use tables::shape_in;
 use tables::spot_in;
 use tables::zone_room;
-ghost use Prim.Native.Nat.{_*_, _<_};
+ghost use Prim.Native.Nat.{_<_};
 ghost use mathlib.Core.Path.{_≡_};
-ghost use lib.Dec.{eqb};
-ghost use lib.ListN.{length};
-ghost use Rattle.order.specs.Sums.{bit};
 ghost use Rattle.tables.specs.Lent.{lent, given};
 ghost use Rattle.tables.specs.Sizes.{Sized};
 ghost use Rattle.tables.specs.Asks.{Parked};
-ghost use Rattle.soundness.specs.Tests.{every, zoneFits, carFits, has, byteRight, sound, Zoned, Fitting, Riding};
+ghost use Rattle.soundness.specs.Tests.{every, zoneFits, carFits, sound, Zoned};
 
 // ---- zones and cars
 
@@ -86,72 +84,7 @@ fn cars_fit(s: Shape, cars: &[u32], spots: &[f32], C: usize) -> bool
     true
 }
 
-// ---- rosters
-
-// Whether a zone's roster has a car.
-fn has(
-    s: Shape,
-    zones: &[u32],
-    Z: usize,
-    cars: &[u32],
-    spots: &[f32],
-    C: usize,
-    z: usize,
-    c: usize,
-) -> bool
-    requires { ⌜ Fitting s (now zones) Z ⌝ }
-    requires { ⌜ Riding s (now cars) (now spots) C ⌝ }
-    requires { ⌜ z < Z ⌝ }
-    requires { ⌜ c < C ⌝ }
-    ensures { λ r. ⌜ r ≡ has s (now (zones .entry)) (now (cars .entry)) (now (spots .entry)) z c ⌝ }
-{
-    if cars[c] == 0 {
-        return false;
-    }
-    let r = rect_in(zones, z);
-    if r.w == 0 {
-        return false;
-    }
-    let Spot::Cell(column, row) = locate(s, spot_in(spots, c)) else {
-        return false;
-    };
-    r.holds(column, row)
-}
-
-// Whether each byte of the rosters is right.
-fn rosters_right(
-    s: Shape,
-    zones: &[u32],
-    Z: usize,
-    cars: &[u32],
-    spots: &[f32],
-    C: usize,
-    rosters: &[u8],
-) -> bool
-    requires { ⌜ Fitting s (now zones) Z ⌝ }
-    requires { ⌜ Riding s (now cars) (now spots) C ⌝ }
-    requires { ⌜ length (now rosters) ≡ Z * C ⌝ }
-    ensures { λ r. ⌜ r ≡ every (byteRight s (now (zones .entry)) (now (cars .entry)) (now (spots .entry)) (now (rosters .entry)) C) (Z * C) ⌝ }
-{
-    let mut i = 0;
-    while i < rosters.len() {
-        if !is_bit(rosters[i], has(s, zones, Z, cars, spots, C, i / C, i % C)) {
-            return false;
-        }
-        i += 1;
-    }
-    true
-}
-
-// Whether a byte says yes or no as it should.
-fn is_bit(byte: u8, yes: bool) -> bool
-    ensures { λ r. ⌜ r ≡ eqb byte (bit yes) ⌝ }
-{
-    if yes {
-        return byte == 1;
-    }
-    byte == 0
-}
+// ---- all tables
 
 // Whether tables that pass check 3 are sound.
 pub fn sound(

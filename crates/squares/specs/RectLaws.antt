@@ -1,12 +1,13 @@
 -- Where a cell and a square lie to a rectangle: the tests and what they say.
-use Prim.Native.Nat.{ℕ, _+_, _-_, _*_, _<_, _≤_}
-use mathlib.Core.Path.{_≡_, sym}
-use mathlib.Core.Bool.{Bool, true, false, _&&_}
+use Prim.Native.Nat.{ℕ, _+_, _-_, _*_, _%_, _^_, _<_, _≤_}
+use mathlib.Core.Path.{_≡_}
+use mathlib.Core.Logic.{⊎-elim}
+use mathlib.Core.Bool.{Bool, true, false, _&&_, and-assoc}
 use native.Mathlib.Omega.{arith}
 use native.Mathlib.Nat.{mul-le-mul-right}
 use lib.Dec.{leb, ltb}
 use borrow.Author.Tests.{le-leb, lt-leb, lt-ltb, le-ltb, leb-true, ltb-true}
-use Rattle.order.specs.TestLaws.{true-not-false, and→, fails, both-ways}
+use Rattle.order.specs.TestLaws.{true-not-false, and→, fails, both-ways, lt-or-le}
 use Rattle.squares.specs.declared.shape.Rect.{Rect}
 use Rattle.squares.specs.Shape.{holds, within}
 use Rattle.squares.specs.Leaves.{meets}
@@ -91,17 +92,14 @@ module _ (r : Rect) (x y d p q : ℕ) (hp : p ≤ 1) (hq : q ≤ 1) where
   pub quarter-within : within r x y (2 * d) ≡ true → within r (x + p * d) (y + q * d) d ≡ true
   quarter-within e = let w = within→ r x y (2 * d) e in →within r (x + p * d) (y + q * d) d (omega (arith, across, up))
 
--- ---- a cell tested from its distance to the corner
+-- ---- a cell tested by its distance from the corner, around 2^64
 
-module _ (r : Rect) (x y : ℕ) where
-  pub held-west : x < r .a → false ≡ holds r x y
-  held-west h = rw (lt-leb (r .a) x h)
+-- a column is one of w from a on where its distance is below w: below a it wraps around, past every u32
+from-corner : (x a w d : ℕ) → x < 2 ^ 32 → a < 2 ^ 32 → w < 2 ^ 32 → d < 2 ^ 64 → (d + a) % 2 ^ 64 ≡ x → ltb d w ≡ (leb a x && ltb x (a + w))
+from-corner x a w d hx ha hw hd e = ⊎-elim
+    (λ (l : x < a). rw (lt-leb a x l) (le-ltb d w (omega arith)))
+    (λ (l : a ≤ x). let f : d ≡ x - a = omega arith in rw (le-leb a x l) (both-ways (ltb d w) (ltb x (a + w)) (λ (t : ltb d w ≡ true). lt-ltb x (a + w) (omega (arith, ltb-true d w t))) (λ (t : ltb x (a + w) ≡ true). lt-ltb d w (omega (arith, ltb-true x (a + w) t)))))
+    (lt-or-le x a)
 
-  pub held-south : y < r .b → false ≡ holds r x y
-  held-south h = sym (fails (holds r x y) (λ (e : holds r x y ≡ true). omega (arith, holds→ r x y e .south)))
-
-  pub held-east : r .a ≤ x → r .w ≤ x - r .a → false ≡ holds r x y
-  held-east h g = rw (le-leb (r .a) x h, le-ltb x (r .a + r .w) (omega arith))
-
-  pub held-north : r .a ≤ x → r .b ≤ y → x - r .a < r .w → ltb (y - r .b) (r .h) ≡ holds r x y
-  held-north h l g = both-ways (ltb (y - r .b) (r .h)) (holds r x y) (λ (e : ltb (y - r .b) (r .h) ≡ true). →holds r x y (record { west = h; east = omega arith; south = l; north = omega (arith, ltb-true (y - r .b) (r .h) e) })) (λ (e : holds r x y ≡ true). lt-ltb (y - r .b) (r .h) (omega (arith, holds→ r x y e .north)))
+pub held : (r : Rect) (x y d e : ℕ) → x < 2 ^ 32 → y < 2 ^ 32 → r .a < 2 ^ 32 → r .b < 2 ^ 32 → r .w < 2 ^ 32 → r .h < 2 ^ 32 → d < 2 ^ 64 → e < 2 ^ 64 → (d + r .a) % 2 ^ 64 ≡ x → (e + r .b) % 2 ^ 64 ≡ y → (ltb d (r .w) && ltb e (r .h)) ≡ holds r x y
+held r x y d e hx hy ha hb hw hh hd he f g = rw (from-corner x (r .a) (r .w) d hx ha hw hd f, from-corner y (r .b) (r .h) e hy hb hh he g) (and-assoc (leb (r .a) x) (ltb x (r .a + r .w)) (leb (r .b) y && ltb y (r .b + r .h)))

@@ -2,24 +2,16 @@
 use Prim.Native.Nat.{ℕ, zero, suc, _+_, _-_, _*_, _/_, _%_, _^_, _<_, _≤_}
 use mathlib.Core.Path.{_≡_, refl, ap, sym, _∙_}
 use mathlib.Core.Logic.{_↔_}
-use mathlib.Core.Bool.{true}
-use mathlib.Core.List.{List, [], _∷_}
 use native.Mathlib.Omega.{arith}
 use native.Mathlib.Numerals.{add-one}
-use native.Mathlib.Nat.{pow-succ', div-one, div-div-eq-div-mul, div-lt-iff-lt-mul, div-add-mod', div-mul-le-self, lt-div-mul-add, mod-lt, mod-one, mul-comm, mul-assoc, add-comm, add-zero, suc-add, zero-add, suc-mul, mul-le-mul-right, mul-div-cancel, mul-mod-left, mul-sub, mul-one, mul-left-comm, eq-of-mul-eq-mul-right}
-use lib.Dec.{eqb}
-use lib.ListN.{length, getD}
+use native.Mathlib.Nat.{pow-succ', div-one, div-div-eq-div-mul, div-lt-iff-lt-mul, div-add-mod', div-mul-le-self, lt-div-mul-add, mod-lt, mod-one, mul-comm, mul-assoc, add-comm, suc-add, zero-add, suc-mul, mul-le-mul-right, mul-div-cancel, mul-mod-left, mul-sub, mul-one, mul-left-comm, eq-of-mul-eq-mul-right}
 use lib.Pow.{pow-pos, pow-mono, pow-add, shr-shr, shl-shr, mod-pow-add, field}
 use lib.Arith.{digits-lt, digits-div, digits-mod, mod-mul}
-use mir.Syntax.{w32}
-use mir.Val.{Fits}
-use borrow.Author.Tests.{eqb-true}
-use Rattle.order.specs.TestLaws.{and→}
 use Rattle.squares.specs.declared.shape.Shape.{Shape}
 use Rattle.squares.specs.Shape.{side, width, height}
 use Rattle.squares.specs.PowerLaws.{four-pos}
 use Rattle.squares.specs.Leaves.{Below, Bits}
-use Rattle.squares.specs.Spread.{spread, tabled, Spread}
+use Rattle.squares.specs.Spread.{spread}
 use Rattle.squares.specs.Squares.{sideOn, squaresOn, squares, interleave, block, number, evens, cornerX, cornerY}
 
 -- ---- bits interleaved and taken apart
@@ -59,23 +51,16 @@ interleave-more zero (suc j) a h g =
 interleave-more (suc i) zero a h g = absurd (omega arith)
 interleave-more (suc i) (suc j) a h g = let e = interleave-more i j (a / 2) (omega (arith, pow-succ' 2 i)) (omega arith) in omega arith
 
--- a table that passes its test has its rule at each place
-tabled-at : (f : ℕ → ℕ) (i : ℕ) (l : List ℕ) → tabled f i l ≡ true → (j : ℕ) → j < length l → getD l j 0 ≡ f (i + j)
-tabled-at f i [] t j h = absurd (omega arith)
-tabled-at f i (n ∷ l) t zero h = rw (add-zero i) (eqb-true n (f i) (and→ (eqb n (f i)) (tabled f (suc i) l) t .0))
-tabled-at f i (n ∷ l) t (suc j) h = let e : i + suc j ≡ suc i + j = omega arith in rw e (tabled-at f (suc i) l (and→ (eqb n (f i)) (tabled f (suc i) l) t .1) j (omega arith))
+-- a number of the table by its place
+pub spread-at : {a n v : ℕ} → a < 32 → a % 32 ≡ n → v ≡ spread n → Below (spread a) 1024 v
+spread-at {a} {n} {v} h e f = let m : n ≡ a = omega arith in record { is = f ∙ ap spread m; below = rw f (interleave-below 5 n 0) }
 
-module _ {l : List ℕ} (t : Spread l) (a : ℕ) (h : a < 32) where
-  pub spread-within : a < length l
-  spread-within = rw (t .long) h
+-- past the last of them there is none
+pub past : {a n : ℕ} → n ≤ a → (a ≡ n → ⊥) → suc n ≤ a
+past {a} {n} h f = omega arith
 
-  pub spread-is : Below (spread a) 1024 (getD l a 0)
-  spread-is =
-      let e = rw (zero-add a) at (tabled-at spread 0 l (t .right) a spread-within) in
-      record { is = e; below = rw e (interleave-below 5 a 0) }
-
-  pub spread-fits : Fits w32 (getD l a 0)
-  spread-fits = record { fits = omega (arith, spread-is .below) }
+pub none-past : (a v : ℕ) → 32 ≤ a % 32 → Below (spread a) 1024 v
+none-past a v h = absurd (omega arith)
 
 pub interleaved-is : (a b r t : ℕ) → Below (spread a) 1024 r → Below (spread b) 1024 t → Below (interleave 5 a b) 1024 (r + 2 * t)
 interleaved-is a b r t p q = let e : r + 2 * t ≡ interleave 5 a b = rw (p .is, q .is) (sym (interleave-apart 5 a b)) in record { is = e; below = rw e (interleave-below 5 a b) }

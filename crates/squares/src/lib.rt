@@ -6,7 +6,6 @@ mod rect; // rect.rt: where a square lies to a rectangle
 
 pub use differ::steps_apart;
 pub use powers::two_to;
-pub use shape::Pair;
 pub use shape::Rect;
 pub use shape::Shape;
 pub use shape::Shaped;

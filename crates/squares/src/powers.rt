@@ -3,7 +3,7 @@ ghost use Prim.Native.Nat.{_^_, _<_, _≤_};
 ghost use Rattle.squares.specs.Shape.{largestK};
 ghost use Rattle.squares.specs.Squares.{interleave, evens};
 ghost use Rattle.squares.specs.Leaves.{Positive, Below};
-ghost use Rattle.squares.specs.Spread.{spread, Spread};
+ghost use Rattle.squares.specs.Spread.{spread};
 
 pub fn two_to(j: u32) -> u32
     requires { ⌜ j ≤ largestK ⌝ }
@@ -19,57 +19,54 @@ pub fn four_to(i: u32) -> u32
     1u32 << (2 * i)
 }
 
-// The numbers of five bits, each bit with a 0 above it. Whoever takes the table has it on its stack, 64 bytes.
-pub const SPREAD: [u16; 32] = [
-    0,
-    1,
-    4,
-    5,
-    16,
-    17,
-    20,
-    21,
-    64,
-    65,
-    68,
-    69,
-    80,
-    81,
-    84,
-    85,
-    256,
-    257,
-    260,
-    261,
-    272,
-    273,
-    276,
-    277,
-    320,
-    321,
-    324,
-    325,
-    336,
-    337,
-    340,
-    341,
-];
-
-fn spread(table: &[u16], a: u32) -> u32
-    requires { ⌜ Spread (now table) ⌝ }
+// A number of five bits, each bit with a 0 above it, from a table of the 32.
+fn spread(a: u32) -> u32
     requires { ⌜ a < 32 ⌝ }
     ensures { λ r. ⌜ Below (spread a) 1024 r ⌝ }
 {
-    table[a as usize] as u32
+    match a % 32 {
+        0 => 0,
+        1 => 1,
+        2 => 4,
+        3 => 5,
+        4 => 16,
+        5 => 17,
+        6 => 20,
+        7 => 21,
+        8 => 64,
+        9 => 65,
+        10 => 68,
+        11 => 69,
+        12 => 80,
+        13 => 81,
+        14 => 84,
+        15 => 85,
+        16 => 256,
+        17 => 257,
+        18 => 260,
+        19 => 261,
+        20 => 272,
+        21 => 273,
+        22 => 276,
+        23 => 277,
+        24 => 320,
+        25 => 321,
+        26 => 324,
+        27 => 325,
+        28 => 336,
+        29 => 337,
+        30 => 340,
+        31 => 341,
+        _ => 0,
+    }
 }
 
 // The bits of a and b, five of each, b's bit above a's of the same rank.
-pub fn interleaved(table: &[u16], a: u32, b: u32) -> u32
-    requires { ⌜ Spread (now table) ⌝ }
+pub fn interleaved(a: u32, b: u32) -> u32
     requires { ⌜ (a < 32) × (b < 32) ⌝ }
     ensures { λ r. ⌜ Below (interleave 5 a b) 1024 r ⌝ }
 {
-    spread(table, a) + 2 * spread(table, b)
+    spread(a) + 2 * spread(b)
 }
 
 // Every other bit of n from the lowest on, i of them.

@@ -1,5 +1,4 @@
 // The town's shape, a rectangle, a square, and what comes from the shape.
-use crate::powers::SPREAD;
 use crate::powers::evens_of;
 use crate::powers::four_to;
 use crate::powers::interleaved;
@@ -12,7 +11,6 @@ ghost use Rattle.squares.specs.Bounds.{Allowed};
 ghost use Rattle.squares.specs.Squares.{sideOn, squaresOn, squares, block, number, isCorner};
 ghost use Rattle.squares.specs.Made.{squareOf};
 ghost use Rattle.squares.specs.Leaves.{Positive, Below, OnMap, OnLevel};
-ghost use Rattle.squares.specs.Spread.{Spread, TwoBelow};
 
 // k, P and Q of a town: blocks of side 2^k, P of them west to east and Q south to north.
 pub struct Shape {
@@ -34,12 +32,6 @@ pub struct Square {
     pub x: u32,
     pub y: u32,
     pub side: u32,
-}
-
-// Two numbers.
-pub struct Pair {
-    pub first: u32,
-    pub second: u32,
 }
 
 pub enum Shaped {
@@ -208,45 +200,19 @@ impl Shape {
         true
     }
 
-    fn number_by(self, table: &[u16], level: u32, x: u32, y: u32) -> u32
-        requires { ⌜ Spread (now table) ⌝ }
-        requires { ⌜ OnMap self x y ⌝ }
-        requires { ⌜ OnLevel self level ⌝ }
-        ensures { λ r. ⌜ Below (number self level x y) (squaresOn self level) r ⌝ }
-    {
-        let side = self.side();
-        let part = self.side_on(level);
-        let local = interleaved(table, x % side / part, y % side / part);
-        four_to(level) * self.block(x, y) + local
-    }
-
-    // The numbers of the squares on a level in which two cells lie: one table for both, and on level 0 none.
-    pub fn numbers(self, level: u32, x: u32, y: u32, column: u32, row: u32) -> Pair
-        requires { ⌜ OnMap self x y ⌝ }
-        requires { ⌜ OnMap self column row ⌝ }
-        requires { ⌜ OnLevel self level ⌝ }
-        ensures { λ r. ⌜ TwoBelow (number self level x y) (number self level column row) (squaresOn self level) r ⌝ }
-    {
-        if level == 0 {
-            return Pair {
-                first: self.block(x, y),
-                second: self.block(column, row),
-            };
-        }
-        let table = SPREAD;
-        let first = self.number_by(&table, level, x, y);
-        let second = self.number_by(&table, level, column, row);
-        Pair { first, second }
-    }
-
-    // The number of the square on a level in which a cell lies.
+    // The number of the square on a level in which a cell lies; on level 0 that of its block.
     pub fn number(self, level: u32, x: u32, y: u32) -> u32
         requires { ⌜ OnMap self x y ⌝ }
         requires { ⌜ OnLevel self level ⌝ }
         ensures { λ r. ⌜ Below (number self level x y) (squaresOn self level) r ⌝ }
     {
-        let both = self.numbers(level, x, y, x, y);
-        both.first
+        if level == 0 {
+            return self.block(x, y);
+        }
+        let side = self.side();
+        let part = self.side_on(level);
+        let local = interleaved(x % side / part, y % side / part);
+        four_to(level) * self.block(x, y) + local
     }
 
     // The square with a number.
@@ -269,19 +235,14 @@ impl Shape {
 }
 
 impl Rect {
-    // Whether a cell lies in the rectangle, of any numbers.
+    // Whether a cell lies in the rectangle, of any numbers: around 2^64 a difference below 0 is past every u32.
     pub fn holds(self, x: u32, y: u32) -> bool
         ensures { λ r. ⌜ r ≡ holds self x y ⌝ }
     {
-        if x < self.a {
-            return false;
-        }
-        if y < self.b {
-            return false;
-        }
-        if self.w <= x - self.a {
-            return false;
-        }
-        y - self.b < self.h
+        let across = std::num::wrapping_sub_u64(x as u64, self.a as u64);
+        let up = std::num::wrapping_sub_u64(y as u64, self.b as u64);
+        let column = across < self.w as u64;
+        let row = up < self.h as u64;
+        column & row
     }
 }

@@ -2,20 +2,18 @@
 use Prim.Native.Nat.{ℕ, zero, suc, _+_, _-_, _*_, _/_, _<_, _≤_}
 use mathlib.Core.Path.{_≡_, refl, ap, ap₂, sym, _∙_}
 use mathlib.Core.Logic.{⊎-elim}
-use mathlib.Core.Bool.{Bool, true}
 use mathlib.Core.List.{List, [], _∷_, _++_, append-nil, append-assoc, map, map-append, List·Memᴰ, List·Memᴰ·head, List·Memᴰ·tail, List·Memᴰ·cases-cons, List·Memᴰ·not-nil, List·Memᴰ·append-cases}
 use native.Mathlib.Omega.{arith}
 use native.Mathlib.Numerals.{add-one}
 use native.Mathlib.Nat.{zero-add, add-zero}
 use lib.ListN.{length, getD, drop, replicate, length-map, length-drop, length-append, length-replicate}
 use lib.Seq.{sets, sets-eq, length-sets, take-at, drop-append-add, drop-drop, drop-length}
-use borrow.Author.Tests.{lt-ltb, le-ltb}
 use borrow.Rule.Slice.PartMut.{midOf, putMid, mid-len}
-use Rattle.order.specs.Order.{span, upto, keep}
+use Rattle.order.specs.Order.{span, upto}
 use Rattle.order.specs.Buffer.{rank}
 use Rattle.order.specs.BufferLaws.{rank-stop, rank-go, rank-end}
 use Rattle.order.specs.RankLaws.{rank-append}
-use Rattle.order.specs.KeepLaws.{span-add, span→, keep→, keep-append, keep-all, length-span}
+use Rattle.order.specs.KeepLaws.{span-add, span→, keep→, length-span}
 use Rattle.squares.specs.Squares.{squares}
 use Rattle.squares.specs.ShapeLaws.{squares-few}
 use Rattle.tables.specs.Tables.{Tables, shapeOf, entryRoom}
@@ -24,8 +22,6 @@ use Rattle.tables.specs.Derived.{on, keysTo, used, free, entriesOf}
 use Rattle.starts.specs.Starts.{ranks, Reaches, Fills}
 use Rattle.tables.specs.RowLaws.{part-stored}
 use Rattle.tables.specs.RunLaws.{keysFrom, keys-add}
-
--- ---- rank
 
 -- ---- the starts set range by range
 
@@ -101,32 +97,22 @@ pub map-same : (f g : ℕ → ℕ) (l : List ℕ) → ((x : ℕ) → List·Mem�
 map-same f g [] h = refl
 map-same f g (x ∷ l) h = rw (h x (List·Memᴰ·head refl), map-same f g l (λ y m. h y (List·Memᴰ·tail m)))
 
-replicate→ : (n v y : ℕ) → List·Memᴰ y (replicate n v) → y ≡ v
+pub replicate→ : (n v y : ℕ) → List·Memᴰ y (replicate n v) → y ≡ v
 replicate→ zero v y m = absurd (List·Memᴰ·not-nil m)
 replicate→ (suc n) v y m = ⊎-elim (λ (e : y ≡ v). e) (λ (h : List·Memᴰ y (replicate n v)). replicate→ n v y h) (List·Memᴰ·cases-cons m)
 
-module _ (t : Tables) (size : Sized t) where
-  -- of the entries with f, those before a place
-  pub rank-kept : (f : ℕ → Bool) (p : ℕ) → p ≤ squares (shapeOf t) → rank (p * 256) (keep f (entriesOf t)) ≡ length (keep f (keysTo t p))
-  rank-kept f p h =
-      let d = squares (shapeOf t) - p in
-      let e : squares (shapeOf t) ≡ p + d = omega arith in
-      let marks = replicate (entryRoom t - length (used t)) free in
-      let rest = keysFrom t p d ++ marks in
-      let parts : entriesOf t ≡ keysTo t p ++ rest = ap (λ (l : List ℕ). l ++ marks) (ap (keysTo t) e ∙ keys-add t p d) ∙ append-assoc (keysTo t p) (keysFrom t p d) marks in
-      let few = squares-few (shapeOf t) (size .shape) in
-      ap (λ (l : List ℕ). rank (p * 256) (keep f l)) parts
-      ∙ ap (rank (p * 256)) (keep-append f (keysTo t p) rest)
-      ∙ rank-append (p * 256) (keep f (keysTo t p)) (keep f rest)
-      (λ y m. omega (arith, span→ 0 (p * 256) y (keep→ (on t) (upto (p * 256)) y (keep→ f (keysTo t p) y m .0) .0)))
-      (λ y m. ⊎-elim
-      (λ (g : List·Memᴰ y (keysFrom t p d)). span→ (p * 256) (d * 256) y (keep→ (on t) (span (p * 256) (d * 256)) y g .0) .0)
-      (λ (g : List·Memᴰ y marks). omega (arith, replicate→ (entryRoom t - length (used t)) free y g))
-      (List·Memᴰ·append-cases (keysFrom t p d) (keep→ f rest y m .0)))
-
-  -- before a place lie the keys of the places below it
-  pub rank-start : (p : ℕ) → p ≤ squares (shapeOf t) → rank (p * 256) (entriesOf t) ≡ length (keysTo t p)
-  rank-start p h = sym (ap (rank (p * 256)) (all (entriesOf t))) ∙ rank-kept (λ (k : ℕ). true) p h ∙ ap length (all (keysTo t p))
-    where
-      all : (l : List ℕ) → keep (λ (k : ℕ). true) l ≡ l
-      all l = keep-all (λ (k : ℕ). true) l (λ k m. refl)
+-- before a place lie the keys of the places below it
+pub rank-start : (t : Tables) → Sized t → (p : ℕ) → p ≤ squares (shapeOf t) → rank (p * 256) (entriesOf t) ≡ length (keysTo t p)
+rank-start t size p h =
+    let d = squares (shapeOf t) - p in
+    let e : squares (shapeOf t) ≡ p + d = omega arith in
+    let marks = replicate (entryRoom t - length (used t)) free in
+    let rest = keysFrom t p d ++ marks in
+    let parts : entriesOf t ≡ keysTo t p ++ rest = ap (λ (l : List ℕ). l ++ marks) (ap (keysTo t) e ∙ keys-add t p d) ∙ append-assoc (keysTo t p) (keysFrom t p d) marks in
+    ap (rank (p * 256)) parts
+    ∙ rank-append (p * 256) (keysTo t p) rest
+    (λ y m. omega (arith, span→ 0 (p * 256) y (keep→ (on t) (upto (p * 256)) y m .0)))
+    (λ y m. ⊎-elim
+    (λ (g : List·Memᴰ y (keysFrom t p d)). span→ (p * 256) (d * 256) y (keep→ (on t) (span (p * 256) (d * 256)) y g .0) .0)
+    (λ (g : List·Memᴰ y marks). omega (arith, replicate→ (entryRoom t - length (used t)) free y g, squares-few (shapeOf t) (size .shape)))
+    (List·Memᴰ·append-cases (keysFrom t p d) m))

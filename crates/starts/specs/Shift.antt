@@ -30,6 +30,10 @@ plus n = n
 abbrev pub less : ℕ → ℕ
 less n = (2 ^ 32 - n % 2 ^ 32) % 2 ^ 32
 
+-- n steps around 2^32
+abbrev pub steps : ℕ → ℕ → ℕ
+steps step n = n * step % 2 ^ 32
+
 -- from place lo on each number is moved by what c makes of how many keys at the front lie before its place
 pub record Moved (c : ℕ → ℕ) (keys : List ℕ) (lo : ℕ) (s s′ : List ℕ) : Type 0 where
   pub each : (q : ℕ) → lo ≤ q → q < length s → getD s′ q 0 ≡ shifted (c (rank (q * 256) keys)) (getD s q 0)

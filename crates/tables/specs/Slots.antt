@@ -1,12 +1,19 @@
--- A car's team and a zone's numbers, as the code reads them.
+-- A car and its team, and a zone's numbers, as the code reads them.
 use Prim.Native.Nat.{ℕ, _+_, _*_, _%_}
 use mathlib.Core.Bool.{Bool, true, cond, _&&_}
 use mathlib.Core.List.{List}
 use lib.Dec.{leb, eqb}
+use lib.Ieee.{Float}
 use lib.ListN.{getD, take, drop}
+use Rattle.position.specs.declared.band.Band.{Band}
+use Rattle.position.specs.Band.{inBands}
 use Rattle.model.specs.declared.answers.Standing.{Standing}
 use Rattle.model.specs.Teams.{lastTeam}
-use Rattle.tables.specs.Tables.{tally, placedIn, teamIn}
+use Rattle.tables.specs.Tables.{tally, placedIn, teamIn, spotIn}
+
+-- car c is placed, and its position's floats are of two bands
+unfoldable pub carBetween : List ℕ → List Float → Band → Band → ℕ → Bool
+carBetween cars spots columns rows c = placedIn cars c && inBands columns rows (spotIn spots c)
 
 -- a team that car c may report
 unfoldable pub teamFits : List ℕ → ℕ → ℕ → Bool

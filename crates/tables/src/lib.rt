@@ -16,6 +16,7 @@ pub use lengths::sized;
 pub use places::parent_of;
 pub use places::place_of;
 pub use records::LAST_TEAM;
+pub use records::car_between;
 pub use records::car_room;
 pub use records::entry_room;
 pub use records::placed_in;

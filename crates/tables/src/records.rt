@@ -1,5 +1,7 @@
 // The records: the shape and the capacities, a zone and its rectangle, a car, its team and its position.
+use position::Band;
 use position::Position;
+use position::in_bands;
 use squares::Rect;
 use squares::Shape;
 ghost use Prim.Native.Nat.{_+_, _*_, _<_, _≤_};
@@ -7,7 +9,7 @@ ghost use mathlib.Core.Path.{_≡_};
 ghost use lib.ListN.{length, getD};
 ghost use Rattle.squares.specs.Shape.{shape};
 ghost use Rattle.tables.specs.Tables.{headOf, shapeIn, rectIn, standsIn, placedIn, spotIn};
-ghost use Rattle.tables.specs.Slots.{teamFits, slotIn};
+ghost use Rattle.tables.specs.Slots.{teamFits, slotIn, carBetween};
 
 // Teams are numbered from 0, the spectators, to 7.
 pub const LAST_TEAM: u32 = 7;
@@ -118,4 +120,13 @@ pub fn spot_in(spots: &[f32], c: usize) -> Position
         x: spots[at],
         y: spots[at + 1],
     }
+}
+
+// Whether car c is placed, and in the cells of two bands. No test is a branch, so that many cars are asked at a time.
+pub fn car_between(cars: &[u32], spots: &[f32], columns: Band, rows: Band, c: usize) -> bool
+    requires { ⌜ c < length (now cars) ⌝ }
+    requires { ⌜ 2 * c + 2 ≤ length (now spots) ⌝ }
+    ensures { λ t. ⌜ t ≡ carBetween (now (cars .entry)) (now (spots .entry)) columns rows c ⌝ }
+{
+    placed_in(cars, c) & in_bands(columns, rows, spot_in(spots, c))
 }

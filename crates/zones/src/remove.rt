@@ -33,9 +33,11 @@ pub fn remove_zone(
         return Removed::Refused(refusal);
     }
     let z = zone as usize;
+    let s = tables::shape_in(head);
+    let r = tables::rect_in(zones, z);
     let many = tables::car_room(head);
     edits::clear_zone(zones, z);
-    entries::drop_keys(starts, entries, zone);
+    entries::drop_keys(s, r, zone, starts, entries);
     rosters::clear_row(rosters, z, many);
     tallies::clear_tally(tallies, z);
     Removed::Done

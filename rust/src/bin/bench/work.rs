@@ -1,69 +1,63 @@
-//! Towns and moves to measure, and the measuring.
+//! Towns, and the zones, cars and moves in them.
 
 use crate::random::Random;
-use crate::rivals::{Cells, Engine, Library, Scan, Squares};
-use std::array;
-use std::hint::black_box;
-use std::time::Instant;
+use crate::rivals::{Cells, Engine, Library, Move, RTree, Scan, Squares};
 use unwadegiro::{Capacities, Position, Rectangle, Refusal, Shape, Town};
 
-/// A town's size, in cells, and what it has room for.
+/// A town's size, in cells, what it has room for, and the longest side of a zone.
 #[derive(Clone, Copy)]
 pub struct Plan {
     pub name: &'static str,
     pub side: u32,
     pub room: Capacities,
+    pub longest: u32,
 }
 
 pub const PLANS: [Plan; 2] = [
-    Plan { name: "Small", side: 64, room: Capacities { zones: 16, cars: 64, entries: 2048 } },
-    Plan { name: "Large", side: 256, room: Capacities { zones: 192, cars: 1024, entries: 16384 } },
+    Plan { name: "Small", side: 64, room: Capacities { zones: 16, cars: 64, entries: 2048 }, longest: 50 },
+    Plan { name: "Large", side: 256, room: Capacities { zones: 192, cars: 1024, entries: 16384 }, longest: 50 },
 ];
 
-/// The calls that are measured, in the order of the columns' values.
-pub const CALLS: [&str; 10] = [
-    "report, another cell",
-    "report, nine of ten in the same cell",
-    "search",
-    "add",
-    "remove",
-    "roster",
-    "open",
-    "count",
-    "holder",
-    "scoring",
-];
+/// All capacities at their bounds. With these sides all zones stand, and take nearly all entries.
+pub const LARGEST: Plan =
+    Plan { name: "Largest", side: 256, room: Capacities { zones: 256, cars: 1024, entries: 16384 }, longest: 38 };
 
-pub const ENGINES: [&str; 4] = ["library", "scan", "cells", "by hand"];
+impl Plan {
+    pub fn shape(&self, k: u32) -> Shape {
+        Shape { k, p: self.side >> k, q: self.side >> k }
+    }
 
-const ROUNDS: usize = 9;
-const REPORTS: usize = 100_000;
-const SEARCHES: usize = 50_000;
-const ROSTERS: usize = 20;
-const COUNTS: usize = 20;
-const OPENS: usize = 10;
-/// How many calls are timed together.
-const BATCH: usize = 1_000;
+    /// A town with no zone and no car, for each engine that is there; the library is the first.
+    pub fn engines(&self, k: u32) -> Vec<Box<dyn Engine>> {
+        let (shape, room) = (self.shape(k), self.room);
+        let mut all: Vec<Box<dyn Engine>> =
+            vec![Box::new(self.library(k)), Box::new(Scan::new(room)), Box::new(Cells::new(shape, room))];
+        if let Some(tree) = RTree::new(room) {
+            all.push(Box::new(tree));
+        }
+        all.push(Box::new(Squares::<false>::new(shape, room)));
+        all.push(Box::new(Squares::<true>::new(shape, room)));
+        all
+    }
 
-/// Nanoseconds a call, for each call and engine.
-pub type Times = [[f64; 4]; CALLS.len()];
+    pub fn library(&self, k: u32) -> Library {
+        Library(Town::open(self.shape(k), self.room).expect("a shape and capacities within the bounds"))
+    }
 
-pub struct Measured {
-    pub plan: Plan,
-    pub k: u32,
-    pub zones: usize,
-    pub entries: usize,
-    pub times: Times,
+    /// A rectangle of some size anywhere.
+    pub fn anywhere(&self, random: &mut Random, w: u32, h: u32) -> Rectangle {
+        Rectangle { a: random.below(self.side - w + 1), b: random.below(self.side - h + 1), w, h }
+    }
 }
 
-type Move = (u32, Position);
-
-struct Work {
-    zones: Vec<(u32, Rectangle)>,
-    places: Vec<Move>,
-    far: Vec<Move>,
-    near: Vec<Move>,
-    spots: Vec<Position>,
+pub struct Work {
+    pub zones: Vec<(u32, Rectangle)>,
+    pub places: Vec<Move>,
+    /// Each to another cell.
+    pub far: Vec<Move>,
+    /// Nine of ten in the same cell.
+    pub near: Vec<Move>,
+    pub spots: Vec<Position>,
 }
 
 fn within(random: &mut Random, (x, y): (u32, u32)) -> Position {
@@ -86,13 +80,19 @@ fn step(random: &mut Random, side: u32, (x, y): (u32, u32)) -> (u32, u32) {
 }
 
 /// Reports of all cars in turn, of which those that `stays` picks keep to their cell.
-fn moves(random: &mut Random, plan: Plan, places: &[Move], mut stays: impl FnMut(&mut Random) -> bool) -> Vec<Move> {
+fn moves(
+    random: &mut Random,
+    side: u32,
+    places: &[Move],
+    many: usize,
+    mut stays: impl FnMut(&mut Random) -> bool,
+) -> Vec<Move> {
     let mut cells: Vec<(u32, u32)> = places.iter().map(|(_, at)| (at.x as u32, at.y as u32)).collect();
-    let mut all = Vec::with_capacity(REPORTS);
-    for turn in 0..REPORTS {
+    let mut all = Vec::with_capacity(many);
+    for turn in 0..many {
         let car = turn % cells.len();
         if !stays(random) {
-            cells[car] = step(random, plan.side, cells[car]);
+            cells[car] = step(random, side, cells[car]);
         }
         all.push((car as u32, within(random, cells[car])));
     }
@@ -100,243 +100,96 @@ fn moves(random: &mut Random, plan: Plan, places: &[Move], mut stays: impl FnMut
 }
 
 impl Work {
-    fn new(plan: Plan, seed: u64) -> Work {
+    /// A zone for each number, a place for each car, and many moves of both kinds.
+    pub fn new(plan: Plan, seed: u64, many: usize) -> Work {
         let random = &mut Random::new(seed);
         let mut zones = Vec::new();
         for zone in 0..plan.room.zones {
-            let (w, h) = (random.between(1, 50), random.between(1, 50));
-            let (a, b) = (random.below(plan.side - w + 1), random.below(plan.side - h + 1));
-            zones.push((zone, Rectangle { a, b, w, h }));
+            let (w, h) = (random.between(1, plan.longest), random.between(1, plan.longest));
+            zones.push((zone, plan.anywhere(random, w, h)));
         }
         let anywhere = |random: &mut Random| {
             let at = (random.below(plan.side), random.below(plan.side));
             within(random, at)
         };
         let places: Vec<Move> = (0..plan.room.cars).map(|car| (car, anywhere(random))).collect();
-        let spots = (0..SEARCHES).map(|_| anywhere(random)).collect();
-        let far = moves(random, plan, &places, |_| false);
-        let near = moves(random, plan, &places, |random| !random.once_in(10));
+        let spots = (0..many / 2).map(|_| anywhere(random)).collect();
+        let far = moves(random, plan.side, &places, many, |_| false);
+        let near = moves(random, plan.side, &places, many, |random| !random.once_in(10));
         Work { zones, places, far, near, spots }
     }
 
-    fn place(&self, engine: &mut impl Engine) {
-        for &(car, at) in &self.places {
-            engine.report(car, at);
-        }
+    /// Leaves out the zones that the entries have no room for. Answers how many entries the others take.
+    pub fn fit(&mut self, plan: Plan, k: u32) -> usize {
+        let (mut town, mut entries) = (plan.library(k).0, 0);
+        self.zones.retain(|&(zone, r)| match town.add(zone, r) {
+            Ok(added) => {
+                entries += added.squares as usize;
+                true
+            }
+            Err(refusal) => {
+                assert_eq!(refusal, Refusal::NoRoom);
+                false
+            }
+        });
+        entries
     }
 
-    fn fill(&self, engine: &mut impl Engine) {
-        for &(zone, r) in &self.zones {
-            engine.add(zone, r).expect("a zone that fits");
-        }
+    /// Puts all cars where they begin.
+    pub fn place(&self, engine: &mut dyn Engine) {
+        engine.report_all(&self.places);
+    }
+
+    pub fn fill(&self, engine: &mut dyn Engine) {
+        self.zones.iter().for_each(|&(zone, r)| engine.add(zone, r));
         self.place(engine);
     }
-}
 
-/// The best time of each batch of calls over all rounds, so that a round which something else disturbed does not count.
-#[derive(Clone, Default)]
-struct Best {
-    batches: Vec<f64>,
-    at: usize,
-    calls: usize,
-}
-
-impl Best {
-    /// Starts a round.
-    fn again(&mut self) {
-        (self.at, self.calls) = (0, 0);
-    }
-
-    /// Notes the time of the next batch.
-    fn note(&mut self, began: Instant, calls: usize) {
-        let ns = began.elapsed().as_nanos() as f64;
-        match self.batches.get_mut(self.at) {
-            Some(best) => *best = best.min(ns),
-            None => self.batches.push(ns),
-        }
-        self.at += 1;
-        self.calls += calls;
-    }
-
-    /// Nanoseconds a call.
-    fn each(&self) -> f64 {
-        self.batches.iter().sum::<f64>() / self.calls as f64
-    }
-}
-
-fn reports(engine: &mut impl Engine, work: &Work, moves: &[Move], best: &mut Best) {
-    work.place(engine);
-    for batch in moves.chunks(BATCH) {
-        let began = Instant::now();
-        for &(car, at) in batch {
-            black_box(engine.report(car, at));
-        }
-        best.note(began, batch.len());
-    }
-}
-
-/// Searches or scorings, each at the same positions.
-fn looks(work: &Work, best: &mut Best, mut look: impl FnMut(Position)) {
-    for batch in work.spots.chunks(BATCH) {
-        let began = Instant::now();
-        batch.iter().for_each(|&at| look(at));
-        best.note(began, batch.len());
-    }
-}
-
-/// Each zone removed from the full town and added again.
-fn zones(engine: &mut impl Engine, work: &Work, adds: &mut Best, removes: &mut Best) {
-    for &(zone, r) in &work.zones {
-        let began = Instant::now();
-        engine.remove(zone);
-        removes.note(began, 1);
-        let began = Instant::now();
-        black_box(engine.add(zone, r)).expect("the zone stood there");
-        adds.note(began, 1);
-    }
-}
-
-fn rosters(engine: &mut impl Engine, work: &Work, best: &mut Best) {
-    for _ in 0..ROSTERS {
-        let began = Instant::now();
-        for &(zone, _) in &work.zones {
-            black_box(engine.roster(zone));
-        }
-        best.note(began, work.zones.len());
-    }
-}
-
-/// All zones in turn, again and again within a batch: one count or holder is short beside a look at the clock.
-fn asks<T>(work: &Work, best: &mut Best, ask: impl Fn(u32) -> T) {
-    let times = BATCH / work.zones.len() + 1;
-    for _ in 0..COUNTS {
-        let began = Instant::now();
-        for _ in 0..times {
-            for &(zone, _) in &work.zones {
-                black_box(ask(zone));
-            }
-        }
-        best.note(began, times * work.zones.len());
-    }
-}
-
-fn opens(engine: &mut impl Engine, work: &Work, best: &mut Best) {
-    for _ in 0..OPENS {
-        let began = Instant::now();
-        engine.clear();
-        best.note(began, 1);
-        work.zones.iter().take(3).for_each(|&(zone, r)| engine.add(zone, r).expect("a zone that fits"));
-    }
-    engine.clear();
-    work.fill(engine);
-}
-
-/// One round of all calls.
-fn round(engine: &mut impl Engine, work: &Work, best: &mut [Best; CALLS.len()]) {
-    best.iter_mut().for_each(Best::again);
-    let [far, near, search, add, remove, roster, open, count, holder, scoring] = best;
-    reports(engine, work, &work.far, far);
-    reports(engine, work, &work.near, near);
-    looks(work, search, |at| {
-        black_box(engine.search(at));
-    });
-    looks(work, scoring, |at| {
-        black_box(engine.scores(at));
-    });
-    zones(engine, work, add, remove);
-    rosters(engine, work, roster);
-    asks(work, count, |zone| engine.count(zone));
-    asks(work, holder, |zone| engine.holder(zone));
-    opens(engine, work, open);
-}
-
-struct Engines {
-    proved: Library,
-    scan: Scan,
-    cells: Cells,
-    squares: Squares,
-}
-
-impl Engines {
     /// Compares every answer of all engines on the same calls.
-    fn compare(&mut self, work: &Work) {
-        let Engines { proved: library, scan, cells, squares } = self;
-        for moves in [&work.far, &work.near] {
-            for &(car, at) in work.places.iter().chain(moves) {
+    pub fn compare(&self, engines: &mut [Box<dyn Engine>]) {
+        let (library, rivals) = engines.split_first_mut().expect("the library at least");
+        for moves in [&self.far, &self.near] {
+            for &(car, at) in self.places.iter().chain(moves) {
                 let answer = library.report(car, at);
-                assert_eq!(answer, scan.report(car, at), "library and scan, a report");
-                assert_eq!(answer, cells.report(car, at), "library and cells, a report");
-                assert_eq!(answer, squares.report(car, at), "library and by hand, a report");
+                for rival in rivals.iter_mut() {
+                    let name = rival.name();
+                    assert_eq!(answer, rival.report(car, at), "library and {}, a report", name);
+                }
             }
         }
-        for &at in &work.spots {
+        for &at in &self.spots {
+            let some = library.scores(at);
             let answer = library.search(at);
-            assert_eq!(answer, scan.search(at), "library and scan, a search");
-            assert_eq!(answer, cells.search(at), "library and cells, a search");
-            assert_eq!(answer, squares.search(at), "library and by hand, a search");
-            let some = !answer.is_empty();
-            let scores = [library.scores(at), scan.scores(at), cells.scores(at), squares.scores(at)];
-            assert_eq!(scores, [some; 4], "search and scoring");
+            assert_eq!(!answer.is_empty(), some, "search and scoring");
+            for rival in rivals.iter_mut() {
+                let name = rival.name();
+                assert_eq!(some, rival.scores(at), "library and {}, a scoring", name);
+                assert_eq!(answer, rival.search(at), "library and {}, a search", name);
+            }
         }
-        for &(car, _) in &work.places {
-            assert_eq!(library.0.where_is(car), Ok(scan.where_is(car)), "where a car is");
+        for &(car, _) in &self.places {
+            for rival in rivals.iter() {
+                let name = rival.name();
+                assert_eq!(library.where_is(car), rival.where_is(car), "library and {}, where a car is", name);
+            }
         }
-        self.compare_rosters(work);
+        self.compare_zones(engines);
     }
 
-    fn compare_rosters(&mut self, work: &Work) {
-        let Engines { proved: library, scan, cells, squares } = self;
-        for &(zone, _) in &work.zones {
+    /// Compares the rosters, counts and holders.
+    pub fn compare_zones(&self, engines: &mut [Box<dyn Engine>]) {
+        let (library, rivals) = engines.split_first_mut().expect("the library at least");
+        for &(zone, _) in &self.zones {
+            let (count, holder) = (library.count(zone), library.holder(zone));
             let answer = library.roster(zone);
-            assert_eq!(answer, scan.roster(zone), "library and scan, a roster");
-            assert_eq!(answer, cells.roster(zone), "library and cells, a roster");
-            assert_eq!(answer, squares.roster(zone), "library and by hand, a roster");
-            let many = answer.len() as u32;
-            let counts = [library.count(zone), scan.count(zone), cells.count(zone), squares.count(zone)];
-            assert_eq!(counts, [many; 4], "roster and counts");
-            let holders = [scan.holder(zone), cells.holder(zone), squares.holder(zone)];
-            assert_eq!(holders, [library.holder(zone); 3], "library and others, a holder");
+            assert_eq!(answer.len() as u32, count, "roster and count");
+            for rival in rivals.iter_mut() {
+                let name = rival.name();
+                assert_eq!(count, rival.count(zone), "library and {}, a count", name);
+                assert_eq!(holder, rival.holder(zone), "library and {}, a holder", name);
+                assert_eq!(answer, rival.roster(zone), "library and {}, a roster", name);
+            }
         }
-        assert!(library.0.is_sound(), "the library's tables are sound");
+        assert!(library.is_sound(), "the library's tables are sound");
     }
-}
-
-/// Measures a town: the zones that its entries have room for stand in it.
-pub fn measure(plan: Plan, k: u32, seed: u64) -> Measured {
-    let shape = Shape { k, p: plan.side >> k, q: plan.side >> k };
-    let mut work = Work::new(plan, seed);
-    let mut library = Library(Town::open(shape, plan.room).expect("a shape and capacities within the bounds"));
-    let mut entries = 0;
-    work.zones.retain(|&(zone, r)| match library.0.add(zone, r) {
-        Ok(added) => {
-            entries += added.squares as usize;
-            true
-        }
-        Err(refusal) => {
-            assert_eq!(refusal, Refusal::NoRoom);
-            false
-        }
-    });
-    library.clear();
-    let mut engines = Engines {
-        proved: library,
-        scan: Scan::new(plan.room),
-        cells: Cells::new(shape, plan.room),
-        squares: Squares::new(shape, plan.room),
-    };
-    work.fill(&mut engines.proved);
-    work.fill(&mut engines.scan);
-    work.fill(&mut engines.cells);
-    work.fill(&mut engines.squares);
-    engines.compare(&work);
-    let mut best: [[Best; CALLS.len()]; 4] = Default::default();
-    for _ in 0..ROUNDS {
-        round(&mut engines.proved, &work, &mut best[0]);
-        round(&mut engines.scan, &work, &mut best[1]);
-        round(&mut engines.cells, &work, &mut best[2]);
-        round(&mut engines.squares, &work, &mut best[3]);
-    }
-    engines.compare_rosters(&work);
-    let times = array::from_fn(|call| array::from_fn(|engine| best[engine][call].each()));
-    Measured { plan, k, zones: work.zones.len(), entries, times }
 }

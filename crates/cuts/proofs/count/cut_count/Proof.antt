@@ -1,77 +1,36 @@
--- The squares of a cut counted: each turn adds those of one level that are inside and have no parent inside.
-use Prim.Native.Nat.{suc, _-_, _*_, _≤_}
-use Rattle.cuts.specs.CountLaws.{CountTurn, count-begins, count-room, count-turns, count-ends}
+-- The squares of a cut counted, with the places of its levels.
+use native.Mathlib.Omega.{arith}
+use Rattle.order.specs.BufferLaws.{count-front}
+use Rattle.cuts.specs.CountLaws.{places-room}
 use borrow.Author.Needs.{needs}
 use Rattle.cuts.proofs.count.cut_count.Statement.{statement}
 use Rattle.cuts.proofs.count.cut_count.Tie as tie
 
-abbrev Inv-loop : tie.InvT-loop
-Inv-loop s r total₀ above₀ level₀ total above level = CountTurn s r total above level
+cast-levels : tie.Need-cast-levels
+cast-levels c = search needs
 
-abbrev μ-loop : tie.MeasureT-loop
-μ-loop s r total₀ above₀ level₀ total above level = suc (s .k) - level
+add-levels : tie.Need-add-levels
+add-levels c = search needs
 
--- from the squares inside back to the loop's test and its top
-abbrev turn : tie.After-wholes2 Inv-loop μ-loop → tie.Then1 Inv-loop μ-loop
-turn c = c .before .before .before .before
+array-borrow-prefix-places : tie.Need-array-borrow-prefix-places
+array-borrow-prefix-places c = search needs
 
-abbrev top : tie.Then1 Inv-loop μ-loop → tie.At-loop Inv-loop μ-loop
-top c = c .before .before
+slice-aggregate-set-places : tie.Need-slice-aggregate-set-places
+slice-aggregate-set-places c = count-front _ _ (omega (arith, c .before .before .pre .shape .levels))
 
-loop-holds : tie.Need-loop-holds Inv-loop μ-loop
-loop-holds c = count-begins (c .pre)
+set-places-requires : tie.Need-set-places-requires
+set-places-requires c κs = places-room (c .before .before .pre)
 
-wholes-requires : tie.Need-wholes-requires Inv-loop μ-loop
-wholes-requires c κs = search needs
-
-wholes-requires-2 : tie.Need-wholes-requires-2 Inv-loop μ-loop
-wholes-requires-2 c κs = search needs
-
-room : (c : tie.After-wholes2 Inv-loop μ-loop) → (c .before .before .wholes .result * c .wholes2 .result ≤ 65536) × (4 * top (turn c) .loop .above ≤ c .before .before .wholes .result * c .wholes2 .result)
-room c = count-room (top (turn c) .before .pre) (top (turn c) .loop .inv) (turn c .if1 .taken) (c .before .before .wholes .ensures) (c .wholes2 .ensures)
-
-mul-inside : tie.Need-mul-inside Inv-loop μ-loop
-mul-inside c = let h = room c in search needs
-
-mul-total : tie.Need-mul-total Inv-loop μ-loop
-mul-total c = let h = room c in search needs
-
-sub-total : tie.Need-sub-total Inv-loop μ-loop
-sub-total c = let h = room c in search needs
-
-add-total : tie.Need-add-total Inv-loop μ-loop
-add-total c = let h = room c in search needs
-
-add-level : tie.Need-add-level Inv-loop μ-loop
-add-level c = search needs
-
-loop-less : tie.Need-loop-less Inv-loop μ-loop
-loop-less c = search needs
-
-loop-again : tie.Need-loop-again Inv-loop μ-loop
-loop-again c = count-turns (top (turn c) .before .pre) (top (turn c) .loop .inv) (turn c .if1 .taken) (c .before .before .wholes .ensures) (c .wholes2 .ensures)
-
-cast-result : tie.Need-cast-result Inv-loop μ-loop
-cast-result c = search needs
-
-returns : tie.Need-returns Inv-loop μ-loop
-returns c = count-ends (c .before .before .before .pre) (c .before .before .loop .inv) (c .if1 .left)
+returns : tie.Need-returns
+returns c = search needs
 
 pub cut-count-spec : {M : Type 1} → statement M
 cut-count-spec =
     tie.close
     (tie.spec
-    Inv-loop
-    μ-loop
-    loop-holds
-    wholes-requires
-    wholes-requires-2
-    mul-inside
-    mul-total
-    sub-total
-    add-total
-    add-level
-    loop-less
-    loop-again
-    cast-result
+    cast-levels
+    add-levels
+    array-borrow-prefix-places
+    slice-aggregate-set-places
+    set-places-requires
     returns)

@@ -1,220 +1,123 @@
--- A descent from a square: itself, nothing, or its four children one after the other. The levels left fall with each call.
+-- A descent from a square that is crossed, child by child: each is looked at, and where it is crossed too descended from. Each call is one level lower.
 use borrow.Author.Needs.{needs}
-use borrow.Author.Tests.{not-true, not-false}
-use mathlib.Core.Bool.{true, false}
-use mathlib.Core.Path.{_≡_, refl, sym, _∙_}
+use mathlib.Core.Logic.{⊎-elim}
 use native.Mathlib.Omega.{arith}
-use lib.Dec.{lit<}
-use Rattle.squares.specs.Shape.{within}
-use Rattle.squares.specs.Leaves.{meets}
-use Rattle.cuts.specs.StepLaws.{child-room, found-one, found-large, found-part, found-apart, found-four}
-use Prim.Native.Nat.{ℕ, _<_}
+use Rattle.cuts.specs.Leaves.{Room}
+use Rattle.cuts.specs.LayLaws.{lays-length}
+use Rattle.cuts.specs.StepLaws.{goes-on, gone-on, ChildTurn, child-begins, child-room, child-turns, child-ends}
+use Prim.Native.Nat.{ℕ, _+_, _-_, _*_, _/_, _%_, _<_}
 use borrow.Fn.Kinds.{In}
 use borrow.Fn.PlainCycle.{Measures, is, falls, and}
 use Rattle.cuts.proofs.descent.descend.Reads as descend
 use Rattle.cuts.proofs.descent.descend.Kinds as descend-kinds
 use Rattle.cuts.proofs.descent.+descend.Lts-descend as descend-lts
-use Rattle.order.proofs.store.Reads as store-reads
-use Rattle.squares.proofs.shape.Rect.meets.Reads as meets-reads
-use Rattle.squares.proofs.shape.Rect.within.Reads as within-reads
+use Rattle.cuts.proofs.descent.take_square.Reads as take-square-reads
 use Rattle.cuts.proofs.descent.+descend.{statement}
 use Rattle.cuts.proofs.descent.+descend.Tie.{close}
 
-abbrev μ-descend : Measures 1 descend-kinds.ps ℕ
-μ-descend κs a = a .1 .0
+abbrev μ-descend : Measures 2 descend-kinds.ps ℕ
+μ-descend κs a = 6 - a .1 .0
 
-abbrev descend-at : ℕ → In 1 descend-kinds.ps
-descend-at t = and 1 descend-kinds.ps (is 1 descend-kinds.ps μ-descend t) descend.Pre
+abbrev descend-at : ℕ → In 2 descend-kinds.ps
+descend-at t = and 2 descend-kinds.ps (is 2 descend-kinds.ps μ-descend t) descend.Pre
 
-abbrev descend-below : ℕ → In 1 descend-kinds.ps
-descend-below t = and 1 descend-kinds.ps (falls 1 descend-kinds.ps _<_ μ-descend t) descend.Pre
+abbrev descend-below : ℕ → In 2 descend-kinds.ps
+descend-below t = and 2 descend-kinds.ps (falls 2 descend-kinds.ps _<_ μ-descend t) descend.Pre
+
+abbrev Inv-loop : descend-lts.InvT-loop
+Inv-loop r level x y d n out₀ next₀ below half c₀ out next c = ChildTurn r level x y d n out₀ out next₀ next c
+
+abbrev μ-loop : descend-lts.MeasureT-loop
+μ-loop r level x y d n out₀ next₀ below half c₀ out next c = 4 - c
 
 abbrev calls : ℕ → descend-lts.Claims
 calls t = (
-  within-reads.Asked,
-  within-reads.Learnt,
-  store-reads.Asked,
-  store-reads.Learnt,
-  meets-reads.Asked,
-  meets-reads.Learnt,
+  take-square-reads.Asked,
+  take-square-reads.Learnt,
   descend-below t,
   descend.Post,
 )
 
 module _ (t : ℕ) where
-  -- from the tests back to the start, and from each child to the one before it
-  abbrev begun : descend-lts.Else3 (calls t) (descend-at t) descend.Post → descend-lts.Start (calls t) (descend-at t) descend.Post
-  begun c = c .before .before .before .before
+  -- from a child looked at back to the loop's test, and from its top to the start
+  abbrev turn : descend-lts.After-take-square (calls t) (descend-at t) descend.Post Inv-loop μ-loop → descend-lts.In-loop (calls t) (descend-at t) descend.Post Inv-loop μ-loop
+  turn c = c .before .before .before
 
-  abbrev parted : descend-lts.Else4 (calls t) (descend-at t) descend.Post → descend-lts.Else3 (calls t) (descend-at t) descend.Post
-  parted c = c .before .before
+  abbrev start : descend-lts.At-loop (calls t) (descend-at t) descend.Post Inv-loop μ-loop → descend-lts.Start (calls t) (descend-at t) descend.Post Inv-loop μ-loop
+  start c = c .before .before .before
 
-  abbrev sw : descend-lts.After-descend (calls t) (descend-at t) descend.Post → descend-lts.Else4 (calls t) (descend-at t) descend.Post
-  sw c = c .before .before
+  room : (c : descend-lts.In-loop (calls t) (descend-at t) descend.Post Inv-loop μ-loop) → let a = start (c .before) .args in let e = c .before .loop in Room (a .r) (a .level + 1) (a .x + e .c % 2 * (a .d / 2)) (a .y + e .c / 2 * (a .d / 2)) (a .d / 2) (4 * a .n + e .c) (e .next)
+  room c = child-room (start (c .before) .pre .1) (c .loop-test .taken) (c .before .loop .inv)
 
-  abbrev se : descend-lts.After-descend2 (calls t) (descend-at t) descend.Post → descend-lts.After-descend (calls t) (descend-at t) descend.Post
-  se c = c .before .before .before .before
+  add-below : descend-lts.Need-add-below (calls t) (descend-at t) descend.Post Inv-loop μ-loop
+  add-below c = search needs
 
-  abbrev nw : descend-lts.After-descend3 (calls t) (descend-at t) descend.Post → descend-lts.After-descend2 (calls t) (descend-at t) descend.Post
-  nw c = c .before .before .before .before
+  loop-holds : descend-lts.Need-loop-holds (calls t) (descend-at t) descend.Post Inv-loop μ-loop
+  loop-holds c = child-begins (c .before .before .pre .1) _
 
-  abbrev ne : descend-lts.After-descend4 (calls t) (descend-at t) descend.Post → descend-lts.After-descend3 (calls t) (descend-at t) descend.Post
-  ne c = c .before .before .before .before
+  mul-east : descend-lts.Need-mul-east (calls t) (descend-at t) descend.Post Inv-loop μ-loop
+  mul-east c = let h = room c in search needs
 
-  -- a square that is parted is not wholly inside, and shares a cell
-  not-inside : (c : descend-lts.Else4 (calls t) (descend-at t) descend.Post) → let a = begun (parted c) .args in within (a .r) (a .x) (a .y) (a .d) ≡ false
-  not-inside c = sym (parted c .before .before .within .ensures) ∙ parted c .before .if1 .left
+  add-east : descend-lts.Need-add-east (calls t) (descend-at t) descend.Post Inv-loop μ-loop
+  add-east c = let h = room c in search needs
 
-  shares : (c : descend-lts.Else4 (calls t) (descend-at t) descend.Post) → let a = begun (parted c) .args in meets (a .r) (a .x) (a .y) (a .d) ≡ true
-  shares c = sym (c .before .meets .ensures) ∙ not-false _ (c .if4 .left)
+  mul-north : descend-lts.Need-mul-north (calls t) (descend-at t) descend.Post Inv-loop μ-loop
+  mul-north c = let h = room c in search needs
 
-  within-requires : descend-lts.Need-within-requires (calls t) (descend-at t) descend.Post
-  within-requires c κs = c .before .pre .1 .near
+  add-north : descend-lts.Need-add-north (calls t) (descend-at t) descend.Post Inv-loop μ-loop
+  add-north c = let h = room c in search needs
 
-  add-store : descend-lts.Need-add-store (calls t) (descend-at t) descend.Post
-  add-store c = search needs
+  mul-number : descend-lts.Need-mul-number (calls t) (descend-at t) descend.Post Inv-loop μ-loop
+  mul-number c = let h = room c in search needs
 
-  store-requires : descend-lts.Need-store-requires (calls t) (descend-at t) descend.Post
-  store-requires c κs = search needs
+  add-number : descend-lts.Need-add-number (calls t) (descend-at t) descend.Post Inv-loop μ-loop
+  add-number c = let h = room c in search needs
 
-  add-result : descend-lts.Need-add-result (calls t) (descend-at t) descend.Post
-  add-result c = search needs
+  take-square-requires : descend-lts.Need-take-square-requires (calls t) (descend-at t) descend.Post Inv-loop μ-loop
+  take-square-requires c κs = room (c .before .before)
 
-  same-length : descend-lts.Need-same-length (calls t) (descend-at t) descend.Post
-  same-length c = c .before .before .store .kept .0
+  descend-requires : descend-lts.Need-descend-requires (calls t) (descend-at t) descend.Post Inv-loop μ-loop
+  descend-requires c κs = let took = c .before .before .before .before .before .before .before in let s = start (turn took .before) .pre in (omega (arith, s .0, s .1 .room .level, s .1 .room .levels), goes-on (took .take-square .ensures) (c .before .before .if1 .taken))
 
-  returns : descend-lts.Need-returns (calls t) (descend-at t) descend.Post
-  returns c =
-      let one = c .before .before .before .before in
-      found-one (sym (one .before .before .within .ensures) ∙ one .before .if1 .taken) (one .if2 .taken) (c .before .before .store .ensures)
+  add-c : descend-lts.Need-add-c (calls t) (descend-at t) descend.Post Inv-loop μ-loop
+  add-c c = search needs
 
-  returns-2 : descend-lts.Need-returns-2 (calls t) (descend-at t) descend.Post
-  returns-2 c = found-large (sym (c .before .before .within .ensures) ∙ c .before .if1 .taken) (c .if2 .left)
+  loop-less : descend-lts.Need-loop-less (calls t) (descend-at t) descend.Post Inv-loop μ-loop
+  loop-less c = search needs
 
-  returns-3 : descend-lts.Need-returns-3 (calls t) (descend-at t) descend.Post
-  returns-3 c = found-part (sym (c .before .before .within .ensures) ∙ c .before .if1 .left) (c .if3 .taken)
+  loop-again : descend-lts.Need-loop-again (calls t) (descend-at t) descend.Post Inv-loop μ-loop
+  loop-again c =
+      let took = c .before .before .before .before .before in
+      let i = turn took in
+      ⊎-elim
+      (λ w. rw (w .8, w .9) (child-turns (start (i .before) .pre .1) (i .loop-test .taken) (i .before .loop .inv) (gone-on (took .take-square .ensures) (w .0 .taken) (w .3 .ensures))))
+      (λ w. rw (w .1, w .2) (child-turns (start (i .before) .pre .1) (i .loop-test .taken) (i .before .loop .inv) (took .take-square .ensures .ends (w .0 .left))))
+      (c .if1 .came)
 
-  meets-requires : descend-lts.Need-meets-requires (calls t) (descend-at t) descend.Post
-  meets-requires c κs = c .before .before .before .before .pre .1 .near
+  same-length : descend-lts.Need-same-length (calls t) (descend-at t) descend.Post Inv-loop μ-loop
+  same-length c = lays-length (c .before .loop .inv .lays)
 
-  returns-4 : descend-lts.Need-returns-4 (calls t) (descend-at t) descend.Post
-  returns-4 c = found-apart (c .before .before .if3 .left) (sym (c .before .meets .ensures) ∙ not-true _ (c .if4 .taken))
+  same-length-2 : descend-lts.Need-same-length-2 (calls t) (descend-at t) descend.Post Inv-loop μ-loop
+  same-length-2 c = c .before .loop .inv .lays .levels
 
-  sub-descend : descend-lts.Need-sub-descend (calls t) (descend-at t) descend.Post
-  sub-descend c = search needs
-
-  mul-descend : descend-lts.Need-mul-descend (calls t) (descend-at t) descend.Post
-  mul-descend c = search needs
-
-  descend-requires : descend-lts.Need-descend-requires (calls t) (descend-at t) descend.Post
-  descend-requires c κs = (omega (arith, parted (c .before) .if3 .left), child-room (begun (parted (c .before)) .pre .1) (parted (c .before) .if3 .left) 0 _ _ _ _ (lit< tt) (omega arith) (omega arith) (omega arith) (omega arith))
-
-  sub-descend-2 : descend-lts.Need-sub-descend-2 (calls t) (descend-at t) descend.Post
-  sub-descend-2 c = search needs
-
-  add-descend : descend-lts.Need-add-descend (calls t) (descend-at t) descend.Post
-  add-descend c = search needs
-
-  mul-descend-2 : descend-lts.Need-mul-descend-2 (calls t) (descend-at t) descend.Post
-  mul-descend-2 c = search needs
-
-  add-descend-2 : descend-lts.Need-add-descend-2 (calls t) (descend-at t) descend.Post
-  add-descend-2 c = search needs
-
-  descend-requires-2 : descend-lts.Need-descend-requires-2 (calls t) (descend-at t) descend.Post
-  descend-requires-2 c κs =
-      let first = c .before .before .before in
-      let all = parted (sw first) in
-      (omega (arith, all .if3 .left), child-room (begun all .pre .1) (all .if3 .left) 1 _ _ _ _ (lit< tt) (omega arith) (omega arith) refl (omega (arith, first .descend .ensures .most)))
-
-  sub-descend-3 : descend-lts.Need-sub-descend-3 (calls t) (descend-at t) descend.Post
-  sub-descend-3 c = search needs
-
-  add-descend-3 : descend-lts.Need-add-descend-3 (calls t) (descend-at t) descend.Post
-  add-descend-3 c = search needs
-
-  mul-descend-3 : descend-lts.Need-mul-descend-3 (calls t) (descend-at t) descend.Post
-  mul-descend-3 c = search needs
-
-  add-descend-4 : descend-lts.Need-add-descend-4 (calls t) (descend-at t) descend.Post
-  add-descend-4 c = search needs
-
-  descend-requires-3 : descend-lts.Need-descend-requires-3 (calls t) (descend-at t) descend.Post
-  descend-requires-3 c κs =
-      let second = c .before .before .before in
-      let first = se second in
-      let all = parted (sw first) in
-      (omega (arith, all .if3 .left), child-room (begun all .pre .1) (all .if3 .left) 2 _ _ _ _ (lit< tt) (omega arith) (omega arith) refl (omega (arith, first .descend .ensures .most, second .descend2 .ensures .most)))
-
-  sub-descend-4 : descend-lts.Need-sub-descend-4 (calls t) (descend-at t) descend.Post
-  sub-descend-4 c = search needs
-
-  add-descend-5 : descend-lts.Need-add-descend-5 (calls t) (descend-at t) descend.Post
-  add-descend-5 c = let h = begun (parted (sw (se (nw (c .before .before))))) .pre .1 in search needs
-
-  add-descend-6 : descend-lts.Need-add-descend-6 (calls t) (descend-at t) descend.Post
-  add-descend-6 c = let h = begun (parted (sw (se (nw (c .before .before))))) .pre .1 in search needs
-
-  mul-descend-4 : descend-lts.Need-mul-descend-4 (calls t) (descend-at t) descend.Post
-  mul-descend-4 c = search needs
-
-  add-descend-7 : descend-lts.Need-add-descend-7 (calls t) (descend-at t) descend.Post
-  add-descend-7 c = search needs
-
-  descend-requires-4 : descend-lts.Need-descend-requires-4 (calls t) (descend-at t) descend.Post
-  descend-requires-4 c κs =
-      let third = c .before .before .before in
-      let second = nw third in
-      let first = se second in
-      let all = parted (sw first) in
-      (omega (arith, all .if3 .left), child-room (begun all .pre .1) (all .if3 .left) 3 _ _ _ _ (lit< tt) (omega arith) (omega arith) refl (omega (arith, first .descend .ensures .most, second .descend2 .ensures .most, third .descend3 .ensures .most)))
-
-  same-length-2 : descend-lts.Need-same-length-2 (calls t) (descend-at t) descend.Post
-  same-length-2 c =
-      let fourth = c .before .before in
-      let third = ne fourth in
-      let second = nw third in
-      let first = se second in
-      fourth .descend4 .kept .1 .1 .1 .1 .1 .1 .1 .0 ∙ third .descend3 .kept .1 .1 .1 .1 .1 .1 .1 .0 ∙ second .descend2 .kept .1 .1 .1 .1 .1 .1 .1 .0 ∙ first .descend .kept .1 .1 .1 .1 .1 .1 .1 .0
-
-  returns-5 : descend-lts.Need-returns-5 (calls t) (descend-at t) descend.Post
-  returns-5 c =
-      let fourth = c .before .before in
-      let third = ne fourth in
-      let second = nw third in
-      let first = se second in
-      found-four (parted (sw first) .if3 .left) (not-inside (sw first)) (shares (sw first)) (first .descend .ensures) (second .descend2 .ensures) (third .descend3 .ensures) (fourth .descend4 .ensures)
+  returns : descend-lts.Need-returns (calls t) (descend-at t) descend.Post Inv-loop μ-loop
+  returns c = child-ends (start (c .before) .pre .1) (c .before .loop .inv) (c .loop-test .left)
 
 pub +descend-spec : {M : Type 1} → statement M
-+descend-spec = close μ-descend λ t. descend-lts.spec (calls t) (descend-at t) descend.Post
-    (within-requires t)
-    (add-store t)
-    (store-requires t)
-    (add-result t)
-    (same-length t)
-    (returns t)
-    (returns-2 t)
-    (returns-3 t)
-    (meets-requires t)
-    (returns-4 t)
-    (sub-descend t)
-    (mul-descend t)
++descend-spec = close μ-descend λ t. descend-lts.spec (calls t) (descend-at t) descend.Post Inv-loop μ-loop
+    (add-below t)
+    (loop-holds t)
+    (mul-east t)
+    (add-east t)
+    (mul-north t)
+    (add-north t)
+    (mul-number t)
+    (add-number t)
+    (take-square-requires t)
     (descend-requires t)
-    (sub-descend-2 t)
-    (add-descend t)
-    (mul-descend-2 t)
-    (add-descend-2 t)
-    (descend-requires-2 t)
-    (sub-descend-3 t)
-    (add-descend-3 t)
-    (mul-descend-3 t)
-    (add-descend-4 t)
-    (descend-requires-3 t)
-    (sub-descend-4 t)
-    (add-descend-5 t)
-    (add-descend-6 t)
-    (mul-descend-4 t)
-    (add-descend-7 t)
-    (descend-requires-4 t)
+    (add-c t)
+    (loop-less t)
+    (loop-again t)
+    (same-length t)
     (same-length-2 t)
-    (returns-5 t)
+    (returns t)

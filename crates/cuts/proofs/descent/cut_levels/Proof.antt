@@ -1,58 +1,67 @@
--- The cut, level by level: each turn stores one level after those before it.
-use Prim.Native.Nat.{suc, _-_}
-use Rattle.order.specs.BufferLaws.{wrote-length}
-use Rattle.cuts.specs.LoopLaws.{AllTurn, all-begins, all-room, all-turns, all-ends}
+-- The cut: each level's place is set, and then the rows of blocks store their squares.
+use Prim.Native.Nat.{_+_}
+use mathlib.Core.Path.{_≡_, _∙_}
+use native.Mathlib.Omega.{arith}
+use lib.ListN.{length, length-append}
+use lib.Seq.{length-take-le}
+use Rattle.order.specs.BufferLaws.{count-front}
+use Rattle.cuts.specs.CountLaws.{places-room}
+use Rattle.cuts.specs.LoopLaws.{cut-room, cut-laid}
 use borrow.Author.Needs.{needs}
 use Rattle.cuts.proofs.descent.cut_levels.Statement.{statement}
 use Rattle.cuts.proofs.descent.cut_levels.Tie as tie
 
-abbrev Inv-loop : tie.InvT-loop
-Inv-loop s r out₀ level₀ next₀ out level next = AllTurn s r out₀ out next level
+-- from the rows back to the places and the start
+abbrev placed : tie.After-cut-rows → tie.After-set-places
+placed c = c .before .before .before .before
 
-abbrev μ-loop : tie.MeasureT-loop
-μ-loop s r out₀ level₀ next₀ out level next = suc (s .k) - level
+abbrev start : tie.After-set-places → tie.Start
+start c = c .before .before .before .before
 
--- from a turn's end back to the loop's test, its top and the start
-abbrev turn : tie.After-slice-known2 Inv-loop μ-loop → tie.Then1 Inv-loop μ-loop
-turn c = c .before .before .before .before
+sized : (c : tie.After-set-places) → length (c .set-places .last .1 .1 .0) ≡ start c .args .s .k + 1
+sized c = c .set-places .kept .1 .1 .0 ∙ length-take-le _ _ (omega (arith, start c .pre .shape .levels))
 
-abbrev top : tie.Then1 Inv-loop μ-loop → tie.At-loop Inv-loop μ-loop
-top c = c .before .before
+cast-levels : tie.Need-cast-levels
+cast-levels c = search needs
 
-abbrev start : tie.At-loop Inv-loop μ-loop → tie.Start Inv-loop μ-loop
-start c = c .before .before
+add-levels : tie.Need-add-levels
+add-levels c = search needs
 
-loop-holds : tie.Need-loop-holds Inv-loop μ-loop
-loop-holds c = all-begins (c .before .pre) _
+array-borrow-prefix-places : tie.Need-array-borrow-prefix-places
+array-borrow-prefix-places c = search needs
 
-cut-level-requires : tie.Need-cut-level-requires Inv-loop μ-loop
-cut-level-requires c κs = all-room (start (top (c .before)) .pre) (top (c .before) .loop .inv) (c .before .if1 .taken)
+slice-aggregate-set-places : tie.Need-slice-aggregate-set-places
+slice-aggregate-set-places c = count-front _ _ (omega (arith, c .before .before .before .pre .shape .levels))
 
-add-level : tie.Need-add-level Inv-loop μ-loop
-add-level c = search needs
+set-places-requires : tie.Need-set-places-requires
+set-places-requires c κs = places-room (c .before .before .before .pre)
 
-loop-less : tie.Need-loop-less Inv-loop μ-loop
-loop-less c = search needs
+array-borrow-prefix-places-2 : tie.Need-array-borrow-prefix-places-2
+array-borrow-prefix-places-2 c = let p = c .before .before in simp length-append (omega (arith, sized p))
 
-loop-again : tie.Need-loop-again Inv-loop μ-loop
-loop-again c = all-turns (start (top (turn c)) .pre) (top (turn c) .loop .inv) (turn c .if1 .taken) (c .before .before .cut-level .ensures)
+slice-aggregate-cut-rows : tie.Need-slice-aggregate-cut-rows
+slice-aggregate-cut-rows c = let p = c .before .before .before in count-front _ _ (simp length-append (omega (arith, sized p)))
 
-same-length : tie.Need-same-length Inv-loop μ-loop
-same-length c = wrote-length (c .before .before .loop .inv .wrote)
+cut-rows-requires : tie.Need-cut-rows-requires
+cut-rows-requires c κs = let p = c .before .before .before in cut-room (start p .pre) (sized p) (p .set-places .ensures) _
 
-returns : tie.Need-returns Inv-loop μ-loop
-returns c = all-ends (start (c .before .before) .pre) (c .before .before .loop .inv) (c .if1 .left)
+same-length : tie.Need-same-length
+same-length c = search needs
+
+returns : tie.Need-returns
+returns c = let p = placed (c .before .before .before) in cut-laid (start p .pre) (sized p) (p .set-places .ensures) _ (c .before .before .before .cut-rows .ensures)
 
 pub cut-levels-spec : {M : Type 1} → statement M
 cut-levels-spec =
     tie.close
     (tie.spec
-    Inv-loop
-    μ-loop
-    loop-holds
-    cut-level-requires
-    add-level
-    loop-less
-    loop-again
+    cast-levels
+    add-levels
+    array-borrow-prefix-places
+    slice-aggregate-set-places
+    set-places-requires
+    array-borrow-prefix-places-2
+    slice-aggregate-cut-rows
+    cut-rows-requires
     same-length
     returns)

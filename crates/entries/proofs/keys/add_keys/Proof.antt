@@ -1,7 +1,8 @@
 -- `add_keys` adds a zone's keys: written, merged, the starts after them raised, those under them counted anew.
 use native.Mathlib.Omega.{arith}
 use Rattle.order.specs.BufferLaws.{count-front}
-use Rattle.entries.specs.KeyLaws.{merge-room, starts-few, front-few, keys-added}
+use Rattle.entries.specs.FrontLaws.{front-few}
+use Rattle.entries.specs.KeyLaws.{merge-room, keys-added}
 use borrow.Author.Needs.{needs}
 use Rattle.entries.proofs.keys.add_keys.Statement.{statement}
 use Rattle.entries.proofs.keys.add_keys.Tie as tie
@@ -25,17 +26,11 @@ raised c = c .before .before .before .before .before
 write-keys-requires : tie.Need-write-keys-requires
 write-keys-requires c κs = search needs
 
-slice-reshare-prefix-merge-keys : tie.Need-slice-reshare-prefix-merge-keys
-slice-reshare-prefix-merge-keys c = search needs
-
-slice-aggregate-merge-keys : tie.Need-slice-aggregate-merge-keys
-slice-aggregate-merge-keys c = let w = c .before .before .before .before in count-front _ _ (omega (arith, w .write-keys .ensures .within, w .write-keys .kept))
-
 merge-keys-requires : tie.Need-merge-keys-requires
-merge-keys-requires c κs = let w = c .before .before .before .before in merge-room (start w .pre) (w .write-keys .ensures)
+merge-keys-requires c κs = let w = c .before .before .before .before in (omega (arith, w .write-keys .ensures .within, w .write-keys .kept .1 .1 .1 .0), merge-room (start w .pre) (w .write-keys .ensures))
 
 raise-starts-requires : tie.Need-raise-starts-requires
-raise-starts-requires c κs = let w = written (c .before .before .before) in (omega (arith, w .write-keys .ensures .within, w .write-keys .kept .1 .1 .1 .0), omega (arith, starts-few (start w .pre), w .write-keys .kept .1 .1 .1 .0))
+raise-starts-requires c κs = let w = written (c .before .before .before) in omega (arith, w .write-keys .ensures .within, w .write-keys .kept .1 .1 .1 .0)
 
 slice-relend-prefix-set-starts : tie.Need-slice-relend-prefix-set-starts
 slice-relend-prefix-set-starts c = search needs
@@ -50,7 +45,7 @@ set-starts-requires : tie.Need-set-starts-requires
 set-starts-requires c κs =
     let m = merged (c .before .before .before .before) in
     let w = written m in
-    (front-few (start w .pre) (w .write-keys .ensures) _, omega (arith, start w .pre .few, m .merge-keys .kept .0))
+    (front-few (w .write-keys .ensures) (start w .pre .shape) (start w .pre .places) _, omega (arith, start w .pre .few, m .merge-keys .kept .1 .1 .0))
 
 same-length : tie.Need-same-length
 same-length c = search needs
@@ -63,15 +58,13 @@ returns c =
     let r = raised (c .before .before) in
     let m = merged r in
     let w = written m in
-    keys-added (start w .pre) (w .write-keys .ensures) _ _ _ (m .merge-keys .ensures) (r .raise-starts .ensures) (c .before .before .set-starts .ensures) (search needs)
+    keys-added (start w .pre) (w .write-keys .ensures) (m .merge-keys .ensures) (r .raise-starts .ensures) (c .before .before .set-starts .ensures)
 
 pub add-keys-spec : {M : Type 1} → statement M
 add-keys-spec =
     tie.close
     (tie.spec
     write-keys-requires
-    slice-reshare-prefix-merge-keys
-    slice-aggregate-merge-keys
     merge-keys-requires
     raise-starts-requires
     slice-relend-prefix-set-starts

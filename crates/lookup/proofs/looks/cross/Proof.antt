@@ -17,17 +17,11 @@ abbrev μ-loop : tie.MeasureT-loop
 
 -- ---- stations: from each the one before it
 
-abbrev start : tie.After-slice-known2 Inv-loop μ-loop → tie.Start Inv-loop μ-loop
-start c = c .before .before .before .before .before
-
-abbrev lent : tie.After-numbers Inv-loop μ-loop → tie.After-slice-known2 Inv-loop μ-loop
-lent c = c .before
-
-abbrev numbered : tie.At-loop Inv-loop μ-loop → tie.After-numbers Inv-loop μ-loop
-numbered c = c .before .before .before .before
+abbrev start : tie.After-steps-apart Inv-loop μ-loop → tie.Start Inv-loop μ-loop
+start c = c .before .before .before .before .before .before
 
 abbrev begin : tie.At-loop Inv-loop μ-loop → tie.Start Inv-loop μ-loop
-begin c = start (lent (numbered c))
+begin c = start (c .before .before .before .before .before)
 
 abbrev turn : tie.After-gather-outside Inv-loop μ-loop → tie.In-loop Inv-loop μ-loop
 turn c = c .before .before
@@ -46,24 +40,28 @@ units c = record { shape = c .pre .0 .shape; level = le-refl _ }
 
 -- ---- needs
 
-numbers-requires : tie.Need-numbers-requires Inv-loop μ-loop
-numbers-requires c κs = let at = start c in (at .pre .0, (at .pre .1 .0, units at))
-
 steps-apart-requires : tie.Need-steps-apart-requires Inv-loop μ-loop
 steps-apart-requires c κs = search needs
 
+number-requires : tie.Need-number-requires Inv-loop μ-loop
+number-requires c κs = let at = start c in (at .pre .0, units at)
+
 place-of-requires : tie.Need-place-of-requires Inv-loop μ-loop
-place-of-requires c κs = let numbers = c .before in (units (start (lent numbers)), numbers .numbers .ensures .first .below)
+place-of-requires c κs = (units (start (c .before)), c .number .ensures .below)
+
+number-requires-2 : tie.Need-number-requires-2 Inv-loop μ-loop
+number-requires-2 c κs = let at = start (c .before .before) in (at .pre .1 .0, units at)
 
 place-of-requires-2 : tie.Need-place-of-requires-2 Inv-loop μ-loop
-place-of-requires-2 c κs = let numbers = c .before .before in (units (start (lent numbers)), numbers .numbers .ensures .second .below)
+place-of-requires-2 c κs = (units (start (c .before .before .before)), c .number2 .ensures .below)
 
 loop-holds : tie.Need-loop-holds Inv-loop μ-loop
 loop-holds c =
-    let steps = c .before .before in
-    let numbers = steps .before in
-    let at = start (lent numbers) in
-    cross-begins (at .pre .0) (at .pre .1 .0) _ _ _ _ _ (numbers .numbers .ensures .first) (numbers .numbers .ensures .second) (steps .steps-apart .ensures) (c .before .place-of .ensures) (c .place-of2 .ensures)
+    let new = c .before in
+    let place = new .before in
+    let old = place .before in
+    let at = start (old .before) in
+    cross-begins (at .pre .0) (at .pre .1 .0) _ _ _ _ _ (old .number .ensures) (new .number2 .ensures) (old .before .steps-apart .ensures) (place .place-of .ensures) (c .place-of2 .ensures)
 
 gather-outside-requires : tie.Need-gather-outside-requires Inv-loop μ-loop
 gather-outside-requires c κs =
@@ -118,9 +116,10 @@ cross-spec =
     (tie.spec
     Inv-loop
     μ-loop
-    numbers-requires
     steps-apart-requires
+    number-requires
     place-of-requires
+    number-requires-2
     place-of-requires-2
     loop-holds
     gather-outside-requires

@@ -1,22 +1,23 @@
--- `mark_cars` sets the bytes of a row car by car, and counts those that are in the rectangle.
+-- `mark_cars` sets the bytes of a row car by car, and counts those that pass.
 use Prim.Native.Nat.{_-_}
 use native.Mathlib.Omega.{arith}
+use Rattle.tables.specs.Slots.{carBetween}
 use Rattle.rosters.specs.InsideLaws.{Marking, mark-begins, mark-turns, mark-ends}
 use borrow.Author.Needs.{needs}
 use Rattle.rosters.proofs.inside.mark_cars.Statement.{statement}
 use Rattle.rosters.proofs.inside.mark_cars.Tie as tie
 
 abbrev Inv-loop : tie.InvT-loop
-Inv-loop s cars spots r row₀ many inside₀ c₀ row inside c = Marking s cars spots r row₀ row inside c
+Inv-loop cars spots columns rows row₀ many inside₀ c₀ row inside c = Marking (carBetween cars spots columns rows) row₀ row inside c
 
 abbrev μ-loop : tie.MeasureT-loop
-μ-loop s cars spots r row₀ many inside₀ c₀ row inside c = many - c
+μ-loop cars spots columns rows row₀ many inside₀ c₀ row inside c = many - c
 
 loop-holds : tie.Need-loop-holds Inv-loop μ-loop
-loop-holds c = mark-begins _ _ _ _ _
+loop-holds c = mark-begins _ _
 
-car-within-requires : tie.Need-car-within-requires Inv-loop μ-loop
-car-within-requires c κs = search needs
+car-between-requires : tie.Need-car-between-requires Inv-loop μ-loop
+car-between-requires c κs = search needs
 
 byte-of-requires : tie.Need-byte-of-requires Inv-loop μ-loop
 byte-of-requires c κs = search needs
@@ -37,7 +38,7 @@ loop-less : tie.Need-loop-less Inv-loop μ-loop
 loop-less c = search needs
 
 loop-again : tie.Need-loop-again Inv-loop μ-loop
-loop-again c = mark-turns (c .before .before .before .loop .inv) (omega arith) _ (c .before .car-within .ensures) _ (c .byte-of .ensures)
+loop-again c = mark-turns (c .before .before .before .loop .inv) (omega arith) _ (c .before .car-between .ensures) _ (c .byte-of .ensures)
 
 same-length : tie.Need-same-length Inv-loop μ-loop
 same-length c = c .before .loop .inv .set .long
@@ -52,7 +53,7 @@ mark-cars-spec =
     Inv-loop
     μ-loop
     loop-holds
-    car-within-requires
+    car-between-requires
     byte-of-requires
     slice-write-row
     cast-inside

@@ -6,7 +6,7 @@ use Rattle.model.specs.Model.{meaning}
 use Rattle.promises.specs.PromiseLaws.{keeps-refused}
 use Rattle.tables.specs.TallyLaws.{tally-in}
 use Rattle.promises.specs.StandingLaws.{There, zone-there}
-use Rattle.zones.specs.RemoveLaws.{record-there, row-there, remove-kept}
+use Rattle.zones.specs.RemoveLaws.{record-there, row-there, keys-there, remove-kept}
 use borrow.Author.Needs.{needs}
 use Rattle.zones.proofs.remove.remove_zone.Statement.{statement}
 use Rattle.zones.proofs.remove.remove_zone.Tie as tie
@@ -16,8 +16,17 @@ use Rattle.zones.proofs.remove.remove_zone.Tie as tie
 abbrev start : tie.Else1 → tie.Start
 start c = c .before .before .before .before .before .before .before .before .before .before .before .before .before .before .before
 
-abbrev passed : tie.After-car-room → tie.Else1
+abbrev passed : tie.After-shape-in → tie.Else1
 passed c = c .before
+
+abbrev shaped : tie.After-rect-in → tie.After-shape-in
+shaped c = c .before .before
+
+abbrev read : tie.After-car-room → tie.After-rect-in
+read c = c .before
+
+abbrev past : tie.After-car-room → tie.Else1
+past c = passed (shaped (read c))
 
 abbrev parked : tie.After-clear-zone → tie.After-car-room
 parked c = c .before .before
@@ -63,20 +72,26 @@ returns : tie.Need-returns
 unfolding meaning
 returns c = keeps-refused _ _ _ _ (c .if1 .taken) (c .before .refuse-zone .ensures) refl
 
+shape-in-requires : tie.Need-shape-in-requires
+shape-in-requires c κs = omega (arith, there c .size .lengths .head)
+
+rect-in-requires : tie.Need-rect-in-requires
+rect-in-requires c κs = record-there (there (passed (c .before)))
+
 car-room-requires : tie.Need-car-room-requires
-car-room-requires c κs = omega (arith, there c .size .lengths .head)
+car-room-requires c κs = omega (arith, there (passed (shaped c)) .size .lengths .head)
 
 clear-zone-requires : tie.Need-clear-zone-requires
-clear-zone-requires c κs = record-there (there (passed (c .before)))
+clear-zone-requires c κs = record-there (there (past (c .before)))
 
 drop-keys-requires : tie.Need-drop-keys-requires
-drop-keys-requires c κs = search needs
+drop-keys-requires c κs = let park = parked (c .before .before .before .before) in keys-there (there (past park)) (shaped (read park) .shape-in .ensures)
 
 clear-row-requires : tie.Need-clear-row-requires
-clear-row-requires c κs = let park = parked (zoned (c .before .before .before .before .before)) in rw (park .car-room .ensures) (row-there (there (passed park)))
+clear-row-requires c κs = let park = parked (zoned (c .before .before .before .before .before)) in rw (park .car-room .ensures) (row-there (there (past park)))
 
 clear-tally-requires : tie.Need-clear-tally-requires
-clear-tally-requires c κs = let park = parked (zoned (dropped (c .before .before .before))) in let k = there (passed park) in omega (arith, tally-in _ (k .size) _ (k .zone))
+clear-tally-requires c κs = let park = parked (zoned (dropped (c .before .before .before))) in let k = there (past park) in omega (arith, tally-in _ (k .size) _ (k .zone))
 
 same-length-6 : tie.Need-same-length-6
 same-length-6 c = search needs
@@ -100,7 +115,7 @@ returns-2 c =
     let keys = dropped cleared in
     let zone = zoned keys in
     let park = parked zone in
-    remove-kept (there (passed park)) (park .car-room .ensures) (zone .clear-zone .ensures) (keys .drop-keys .ensures) (cleared .clear-row .ensures) (counted .clear-tally .ensures)
+    remove-kept (there (past park)) (shaped (read park) .shape-in .ensures) (read park .rect-in .ensures) (park .car-room .ensures) (zone .clear-zone .ensures) (keys .drop-keys .ensures) (cleared .clear-row .ensures) (counted .clear-tally .ensures)
 
 pub remove-zone-spec : {M : Type 1} → statement M
 remove-zone-spec =
@@ -113,6 +128,8 @@ remove-zone-spec =
     same-length-4
     same-length-5
     returns
+    shape-in-requires
+    rect-in-requires
     car-room-requires
     clear-zone-requires
     drop-keys-requires
