@@ -1,4 +1,6 @@
 // The calls for C and Rust. A call returns 0 or the number of a refusal; what it answers besides goes into `values`.
+#![tactic(auto)]
+
 mod shapes; // shapes.rt: the calls without tables
 mod town; // town.rt: a town opened, zones added, moved and taken away
 mod reports; // reports.rt: cars placed, moved and taken off the map

@@ -1,6 +1,6 @@
 // The log: a piece of it, and its end.
 ghost use Rattle.std.specs.Prelude.{◌≡◌, [], ◌∷◌, length, set};
-ghost use Rattle.tables.specs.Lent.{lent};
+ghost use Rattle.tables.specs.Lent.{lent, as_written};
 ghost use Rattle.pieces.specs.Pieces.{held_in, fill, finish};
 ghost use Rattle.boundary.specs.Promises.{filling_says, Said, Logs};
 
@@ -49,7 +49,7 @@ pub extern "C" fn unwadegiro_log(
     out: &mut [u8],
     values: &mut [usize],
 ) -> u32
-    ensures { Logs (fill (length out.old) (lent head zones cars spots starts entries rosters tallies).entry (held_in held.old) piece.now) (lent head zones cars spots starts entries rosters tallies) piece.now held.old held.new out.old out.new values.old values.new result }
+    ensures { Logs (fill (length out.old) (lent (as_written head) (as_written zones) (as_written cars) (as_written spots) (as_written starts) (as_written entries) (as_written rosters) (as_written tallies)).entry (held_in held.old) piece.now) (lent (as_written head) (as_written zones) (as_written cars) (as_written spots) (as_written starts) (as_written entries) (as_written rosters) (as_written tallies)) piece.now held.old held.new out.old out.new values.old values.new result }
 {
     let filling = replay::answer_piece(
         head, zones, cars, spots, starts, entries, rosters, tallies, piece, held, out,
@@ -72,7 +72,7 @@ pub extern "C" fn unwadegiro_log_end(
     out: &mut [u8],
     values: &mut [usize],
 ) -> u32
-    ensures { Logs (finish (lent head zones cars spots starts entries rosters tallies).entry (held_in held.old)) (lent head zones cars spots starts entries rosters tallies) [] held.old held.new out.old out.new values.old values.new result }
+    ensures { Logs (finish (lent (as_written head) (as_written zones) (as_written cars) (as_written spots) (as_written starts) (as_written entries) (as_written rosters) (as_written tallies)).entry (held_in held.old)) (lent (as_written head) (as_written zones) (as_written cars) (as_written spots) (as_written starts) (as_written entries) (as_written rosters) (as_written tallies)) [] held.old held.new out.old out.new values.old values.new result }
 {
     let filling = replay::answer_end(
         head, zones, cars, spots, starts, entries, rosters, tallies, held, out,

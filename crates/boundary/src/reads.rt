@@ -1,5 +1,5 @@
 // Search, scoring, roster, count, holder, where a car is, and soundness.
-ghost use Rattle.tables.specs.Lent.{lent};
+ghost use Rattle.tables.specs.Lent.{lent, as_read};
 ghost use Rattle.promises.specs.Events.{searched, scoring_told, roster_told, count_told, holder_told, soundness_told};
 ghost use Rattle.boundary.specs.Promises.{point, Relays, Pointed};
 
@@ -24,7 +24,7 @@ pub extern "C" fn unwadegiro_search(
     found: &mut [u32],
     values: &mut [u32],
 ) -> u32
-    ensures { Relays 2 (lent head zones cars spots starts entries rosters tallies) (searched (point x y) found) values.old values.new result }
+    ensures { Relays 2 (lent (as_read head) (as_read zones) (as_read cars) (as_read spots) (as_read starts) (as_read entries) (as_read rosters) (as_read tallies)) (searched (point x y) found) values.old values.new result }
 {
     let p = Position { x, y };
     let searched = readings::search_zones(
@@ -48,7 +48,7 @@ pub extern "C" fn unwadegiro_scoring(
     y: f32,
     values: &mut [u32],
 ) -> u32
-    ensures { Relays 2 (lent head zones cars spots starts entries rosters tallies) (scoring_told (point x y)) values.old values.new result }
+    ensures { Relays 2 (lent (as_read head) (as_read zones) (as_read cars) (as_read spots) (as_read starts) (as_read entries) (as_read rosters) (as_read tallies)) (scoring_told (point x y)) values.old values.new result }
 {
     let p = Position { x, y };
     let scoring = readings::scoring_of_spot(
@@ -72,7 +72,7 @@ pub extern "C" fn unwadegiro_roster(
     inside: &mut [u32],
     values: &mut [u32],
 ) -> u32
-    ensures { Relays 1 (lent head zones cars spots starts entries rosters tallies) (roster_told zone inside) values.old values.new result }
+    ensures { Relays 1 (lent (as_read head) (as_read zones) (as_read cars) (as_read spots) (as_read starts) (as_read entries) (as_read rosters) (as_read tallies)) (roster_told zone inside) values.old values.new result }
 {
     let roster = readings::roster_of_zone(
         head, zones, cars, spots, starts, entries, rosters, tallies, zone, inside,
@@ -94,7 +94,7 @@ pub extern "C" fn unwadegiro_count(
     zone: u32,
     values: &mut [u32],
 ) -> u32
-    ensures { Relays 1 (lent head zones cars spots starts entries rosters tallies) (count_told zone) values.old values.new result }
+    ensures { Relays 1 (lent (as_read head) (as_read zones) (as_read cars) (as_read spots) (as_read starts) (as_read entries) (as_read rosters) (as_read tallies)) (count_told zone) values.old values.new result }
 {
     let count = readings::count_of_zone(
         head, zones, cars, spots, starts, entries, rosters, tallies, zone,
@@ -116,7 +116,7 @@ pub extern "C" fn unwadegiro_holder(
     zone: u32,
     values: &mut [u32],
 ) -> u32
-    ensures { Relays 9 (lent head zones cars spots starts entries rosters tallies) (holder_told zone) values.old values.new result }
+    ensures { Relays 9 (lent (as_read head) (as_read zones) (as_read cars) (as_read spots) (as_read starts) (as_read entries) (as_read rosters) (as_read tallies)) (holder_told zone) values.old values.new result }
 {
     let holder = readings::holder_of_zone(
         head, zones, cars, spots, starts, entries, rosters, tallies, zone,
@@ -138,7 +138,7 @@ pub extern "C" fn unwadegiro_where(
     car: u32,
     position: &mut [f32],
 ) -> u32
-    ensures { Pointed (lent head zones cars spots starts entries rosters tallies) car position.old position.new result }
+    ensures { Pointed (lent (as_read head) (as_read zones) (as_read cars) (as_read spots) (as_read starts) (as_read entries) (as_read rosters) (as_read tallies)) car position.old position.new result }
 {
     let found = readings::where_is_car(
         head, zones, cars, spots, starts, entries, rosters, tallies, car,
@@ -159,7 +159,7 @@ pub extern "C" fn unwadegiro_sound(
     tallies: &[u32],
     values: &mut [u32],
 ) -> u32
-    ensures { Relays 1 (lent head zones cars spots starts entries rosters tallies) soundness_told values.old values.new result }
+    ensures { Relays 1 (lent (as_read head) (as_read zones) (as_read cars) (as_read spots) (as_read starts) (as_read entries) (as_read rosters) (as_read tallies)) soundness_told values.old values.new result }
 {
     let soundness = readings::soundness_of_town(
         head, zones, cars, spots, starts, entries, rosters, tallies,

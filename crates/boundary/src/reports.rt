@@ -1,5 +1,5 @@
 // Cars placed, moved and taken off the map.
-ghost use Rattle.tables.specs.Lent.{lent};
+ghost use Rattle.tables.specs.Lent.{lent, as_read, as_written};
 ghost use Rattle.promises.specs.Events.{reported, left_map};
 ghost use Rattle.boundary.specs.Promises.{point, Relays};
 
@@ -25,7 +25,7 @@ pub extern "C" fn unwadegiro_report(
     left: &mut [u32],
     values: &mut [u32],
 ) -> u32
-    ensures { Relays 3 (lent head zones cars spots starts entries rosters tallies) (reported car team (point x y) entered left) values.old values.new result }
+    ensures { Relays 3 (lent (as_read head) (as_read zones) (as_written cars) (as_written spots) (as_read starts) (as_read entries) (as_written rosters) (as_written tallies)) (reported car team (point x y) entered left) values.old values.new result }
 {
     let p = Position { x, y };
     let reported = cars::report_car(
@@ -49,7 +49,7 @@ pub extern "C" fn unwadegiro_leave(
     left: &mut [u32],
     values: &mut [u32],
 ) -> u32
-    ensures { Relays 2 (lent head zones cars spots starts entries rosters tallies) (left_map car left) values.old values.new result }
+    ensures { Relays 2 (lent (as_read head) (as_read zones) (as_written cars) (as_read spots) (as_read starts) (as_read entries) (as_written rosters) (as_written tallies)) (left_map car left) values.old values.new result }
 {
     let gone = cars::leave_map(
         head, zones, cars, spots, starts, entries, rosters, tallies, car, left,

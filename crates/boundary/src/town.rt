@@ -1,6 +1,6 @@
 // A town opened, zones added, moved and taken away.
 ghost use Rattle.std.specs.Prelude.{[]};
-ghost use Rattle.tables.specs.Lent.{lent};
+ghost use Rattle.tables.specs.Lent.{lent, as_read, as_written};
 ghost use Rattle.promises.specs.Events.{asked, opened, added, removed, rode};
 ghost use Rattle.boundary.specs.Promises.{rect, Relays};
 
@@ -25,7 +25,7 @@ pub extern "C" fn unwadegiro_open(
     C: u32,
     E: u32,
 ) -> u32
-    ensures { Relays 0 (lent head zones cars spots starts entries rosters tallies) (opened (asked k P Q Z C E)) [] [] result }
+    ensures { Relays 0 (lent (as_written head) (as_written zones) (as_written cars) (as_written spots) (as_written starts) (as_written entries) (as_written rosters) (as_written tallies)) (opened (asked k P Q Z C E)) [] [] result }
 {
     tell_opened(zones::open_town(
         head, zones, cars, spots, starts, entries, rosters, tallies, k, P, Q, Z, C, E,
@@ -50,7 +50,7 @@ pub extern "C" fn unwadegiro_add(
     h: u32,
     values: &mut [u32],
 ) -> u32
-    ensures { Relays 2 (lent head zones cars spots starts entries rosters tallies) (added zone (rect a b w h)) values.old values.new result }
+    ensures { Relays 2 (lent (as_read head) (as_written zones) (as_read cars) (as_read spots) (as_written starts) (as_written entries) (as_written rosters) (as_written tallies)) (added zone (rect a b w h)) values.old values.new result }
 {
     let r = Rect { a, b, w, h };
     let added = zones::add_zone(
@@ -72,7 +72,7 @@ pub extern "C" fn unwadegiro_remove(
     tallies: &mut [u32],
     zone: u32,
 ) -> u32
-    ensures { Relays 0 (lent head zones cars spots starts entries rosters tallies) (removed zone) [] [] result }
+    ensures { Relays 0 (lent (as_read head) (as_written zones) (as_read cars) (as_read spots) (as_written starts) (as_written entries) (as_written rosters) (as_written tallies)) (removed zone) [] [] result }
 {
     tell_removed(zones::remove_zone(
         head, zones, cars, spots, starts, entries, rosters, tallies, zone,
@@ -97,7 +97,7 @@ pub extern "C" fn unwadegiro_ride(
     left: &mut [u32],
     values: &mut [u32],
 ) -> u32
-    ensures { Relays 4 (lent head zones cars spots starts entries rosters tallies) (rode zone dx dy entered left) values.old values.new result }
+    ensures { Relays 4 (lent (as_read head) (as_written zones) (as_read cars) (as_read spots) (as_written starts) (as_written entries) (as_written rosters) (as_written tallies)) (rode zone dx dy entered left) values.old values.new result }
 {
     let ridden = zones::ride_zone(
         head, zones, cars, spots, starts, entries, rosters, tallies, zone, dx, dy, entered, left,

@@ -1,7 +1,7 @@
 // A car taken off the map.
 ghost use Rattle.std.specs.Prelude.{◌≡◌};
 ghost use Rattle.model.specs.Model.{leaving};
-ghost use Rattle.tables.specs.Lent.{lent};
+ghost use Rattle.tables.specs.Lent.{lent, as_read, as_written};
 ghost use Rattle.promises.specs.Promise.{bars, Keeps};
 ghost use Rattle.promises.specs.Events.{left_map};
 
@@ -21,7 +21,7 @@ fn refuse_leave(
     car: u32,
     left: &[u32],
 ) -> u32
-    ensures { result ≡ bars (lent head zones cars spots starts entries rosters tallies).entry (leaving car left.now) }
+    ensures { result ≡ bars (lent (as_read head) (as_read zones) (as_read cars) (as_read spots) (as_read starts) (as_read entries) (as_read rosters) (as_read tallies)).entry (leaving car left.now) }
 {
     let refusal = promises::refuse_car(
         head, zones, cars, spots, starts, entries, rosters, tallies, car,
@@ -49,7 +49,7 @@ pub fn leave_map(
     car: u32,
     left: &mut [u32],
 ) -> Left
-    ensures { Keeps (lent head zones cars spots starts entries rosters tallies) (left_map car left result) }
+    ensures { Keeps (lent (as_read head) (as_read zones) (as_written cars) (as_read spots) (as_read starts) (as_read entries) (as_written rosters) (as_written tallies)) (left_map car left result) }
 {
     let refusal = refuse_leave(
         head, zones, cars, spots, starts, entries, rosters, tallies, car, left,

@@ -2,7 +2,7 @@
 ghost use Rattle.std.specs.Prelude.{◌+◌, ◌*◌, ◌<◌, ◌≤◌, ◌≡◌, length};
 ghost use Rattle.squares.specs.Squares.{squares};
 ghost use Rattle.squares.specs.Leaves.{OnMap};
-ghost use Rattle.tables.specs.Lent.{lent, given};
+ghost use Rattle.tables.specs.Lent.{lent, given, as_read, as_written};
 ghost use Rattle.promises.specs.Promise.{Keeps};
 ghost use Rattle.promises.specs.Events.{reported};
 ghost use Rattle.lookup.specs.Looks.{Enters, Sees};
@@ -14,7 +14,7 @@ use position::{Position, Spot};
 use squares::Shape;
 
 // A report refused by its number, or the cell that it goes to.
-#[derive(Drop)]
+#[derive(Clone, Copy)]
 enum Admitted {
     Refused(u32),
     At(u32, u32),
@@ -35,7 +35,7 @@ fn admit(
     entered: &[u32],
     left: &[u32],
 ) -> Admitted
-    ensures { result ≡ admitted (lent head zones cars spots starts entries rosters tallies).entry car team p entered.now left.now }
+    ensures { result ≡ admitted (lent (as_read head) (as_read zones) (as_read cars) (as_read spots) (as_read starts) (as_read entries) (as_read rosters) (as_read tallies)).entry car team p entered.now left.now }
 {
     if !tables::sized(head, zones, cars, spots, starts, entries, rosters, tallies) {
         return Admitted::Refused(3);
@@ -129,8 +129,8 @@ fn move_car(
     entered: &mut [u32],
     left: &mut [u32],
 ) -> Reported
-    requires { Reportable (given head zones cars spots starts entries rosters tallies) car team p x y entered.old left.old }
-    ensures { Keeps (lent head zones cars spots starts entries rosters tallies) (reported car team p entered left result) }
+    requires { Reportable (given head.now zones.now cars.old spots.old starts.now entries.now rosters.old tallies.old) car team p x y entered.old left.old }
+    ensures { Keeps (lent (as_read head) (as_read zones) (as_written cars) (as_written spots) (as_read starts) (as_read entries) (as_written rosters) (as_written tallies)) (reported car team p entered left result) }
 {
     let s = tables::shape_in(head);
     let c = car as usize;
@@ -166,7 +166,7 @@ pub fn report_car(
     entered: &mut [u32],
     left: &mut [u32],
 ) -> Reported
-    ensures { Keeps (lent head zones cars spots starts entries rosters tallies) (reported car team p entered left result) }
+    ensures { Keeps (lent (as_read head) (as_read zones) (as_written cars) (as_written spots) (as_read starts) (as_read entries) (as_written rosters) (as_written tallies)) (reported car team p entered left result) }
 {
     let admitted = admit(
         head, zones, cars, spots, starts, entries, rosters, tallies, car, team, p, entered, left,

@@ -1,5 +1,7 @@
 // Document 01's cases, run through the calls. Each line is what was asked and what was answered:
 // the refusal number, or 0 and the values.
+#![tactic(auto)]
+
 mod whole; // whole.rt: the whole case of the log
 mod rides; // rides.rt: zones that ride
 mod small; // small.rt: a small town, sound and then with one number wrong at a time

@@ -6,7 +6,7 @@ use position::{Position, Spot, float_of};
 use squares::Shape;
 
 // The tables of one block of four cells: 2 zones, 2 cars, 4 entries, 5 squares.
-#[derive(Drop)]
+#[derive(Clone, Copy)]
 pub struct Small {
     pub head: [u32; 6],
     pub zones: [u32; 8],

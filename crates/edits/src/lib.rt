@@ -1,4 +1,6 @@
 // The records of zones and cars, written, and why what a change leaves is sound and is the model's.
+#![tactic(auto)]
+
 mod cars; // cars.rt: a car's record written
 mod zones; // zones.rt: a zone's record written
 

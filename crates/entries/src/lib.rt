@@ -1,4 +1,6 @@
 // The entries, written: a zone's keys put in and taken out, the starts moved with them.
+#![tactic(auto)]
+
 mod entries; // entries.rt: a zone's keys taken out in one pass
 mod gaps; // gaps.rt: keys taken out by ranges
 mod merge; // merge.rt: keys merged into the entries

@@ -6,7 +6,7 @@ ghost use Rattle.grid.specs.Promises.{makes, cut_is, cut_gives};
 use cuts::{cut_count, cut_levels};
 use squares::{Rect, Shape, Shaped};
 
-#[derive(Drop)]
+#[derive(Clone, Copy)]
 pub enum CutOf {
     Refused(u32),
     Listed(usize),

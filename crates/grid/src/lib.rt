@@ -1,4 +1,6 @@
 // The calls from a shape alone: the number of a square, the square of a number, the cut of a rectangle.
+#![tactic(auto)]
+
 mod numbers; // numbers.rt: the number of a square and the square of a number
 mod cut; // cut.rt: the cut of a rectangle into a lent buffer
 

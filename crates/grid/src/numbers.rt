@@ -5,13 +5,13 @@ ghost use Rattle.grid.specs.Promises.{makes, number_is, number_gives, square_is,
 
 use squares::{Shape, Shaped, Square};
 
-#[derive(Drop)]
+#[derive(Clone, Copy)]
 pub enum NumberOf {
     Refused(u32),
     Number(u32),
 }
 
-#[derive(Drop)]
+#[derive(Clone, Copy)]
 pub enum SquareOf {
     Refused(u32),
     Square(Square),

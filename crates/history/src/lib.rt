@@ -1,1 +1,2 @@
 // Any sequence of calls: what holds after every history. No code.
+#![tactic(auto)]

@@ -82,8 +82,9 @@ unfolding feed split
 feed-lines g [] = last-cut g ∙ ap (λ (t : List ℕ). map (take 81) (last t)) (sym (append-nil g))
 feed-lines g (x ∷ l) = ⊎_elim
     (λ (e : eqb x 10 ≡ true).
-    rw (e, append-nil g, trimmed-more g l)
-    (ap (λ (t : List (List ℕ)). take 81 g ∷ t) (feed-lines [] l ∙ ap (λ (t : List (List ℕ)). map (take 81) (trimmed t)) (prepend-none l))))
+    rw e
+    (ap (λ (t : List (List ℕ)). take 81 g ∷ t) (feed-lines [] l ∙ ap (λ (t : List (List ℕ)). map (take 81) (trimmed t)) (prepend-none l))
+    ∙ sym (ap (λ (k : List ℕ). map (take 81) (trimmed (k ∷ split 10 l))) (append-nil g) ∙ ap (map (take 81)) (trimmed-more g l))))
     (λ (e : eqb x 10 ≡ false).
     rw e (ap (λ (t : List ℕ). ending (feed t l)) (take-take-append 81 g (x ∷ [])) ∙ feed-lines (g ++ (x ∷ [])) l ∙ ap (λ (t : List (List ℕ)). map (take 81) (trimmed t)) (prepend-grow g x (split 10 l))))
     (true-or-false (eqb x 10))

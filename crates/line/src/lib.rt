@@ -1,4 +1,6 @@
 // The log's lines: what a line means, and the lines of an input that comes in pieces.
+#![tactic(auto)]
+
 mod scan; // scan.rt: where a part of a list of bytes ends
 mod numbers; // numbers.rt: decimals and coordinates
 mod fields; // fields.rt: where a field of a line ends

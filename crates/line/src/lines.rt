@@ -7,7 +7,7 @@ use crate::scan::end_of;
 
 // A line taken out of a piece: up to where, how many bytes of it stand in the buffer, whether it has ended, and how many of
 // them are held for the next piece, none where it has.
-#[derive(Drop)]
+#[derive(Clone, Copy)]
 pub struct Taken {
     pub next: usize,
     pub bytes: usize,

@@ -3,7 +3,7 @@ ghost use Rattle.std.specs.Prelude.{◌≡◌};
 ghost use Rattle.line.specs.Grammar.{digit_of, numeral, decimal, coordinate, value};
 ghost use Rattle.line.specs.Leaves.{Short};
 
-#[derive(Drop)]
+#[derive(Clone, Copy)]
 pub enum Number {
     Wrong,
     Value(u64),

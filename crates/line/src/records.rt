@@ -8,7 +8,7 @@ use crate::numbers::{Number, read_value};
 use crate::reader::field_ends;
 
 // A line that is no record is Bad. A coordinate is a float's bits.
-#[derive(Drop)]
+#[derive(Clone, Copy)]
 pub enum Record {
     Bad,
     // k, P, Q
@@ -28,7 +28,7 @@ pub enum Record {
 }
 
 // The fields after a record's letter: how many, and the base of each.
-#[derive(Drop)]
+#[derive(Clone, Copy)]
 struct Form(usize, [u64; 5]);
 
 fn form_of(letter: u8) -> Form

@@ -1,6 +1,8 @@
 // A log of records from standard input, answered on standard output.
+#![tactic(auto)]
+
 ghost use Rattle.std.specs.Prelude.{◌<◌, ◌≤◌, ◌≡◌, length};
-ghost use Rattle.tables.specs.Lent.{lent, given};
+ghost use Rattle.tables.specs.Lent.{lent, given, as_written};
 ghost use Rattle.log.specs.Carried.{many_of, Filled, Put, Carries, Carried};
 
 use libc::{STDIN_FILENO, STDOUT_FILENO};
@@ -9,7 +11,7 @@ use replay::{answer_end, answer_piece};
 use tables::TALLY;
 
 // What a read or a write did.
-#[derive(Drop)]
+#[derive(Clone, Copy)]
 enum Moved {
     Failed,
     Ended,
@@ -17,7 +19,7 @@ enum Moved {
 }
 
 // How a run ended.
-#[derive(Drop)]
+#[derive(Clone, Copy)]
 enum Ending {
     Answered,
     Unread,
@@ -120,8 +122,8 @@ fn carry(
     held: &mut [u8],
     out: &mut [u8],
 ) -> bool
-    requires { Carries (given head zones cars spots starts entries rosters tallies) held.old out.old }
-    ensures { Carried (lent head zones cars spots starts entries rosters tallies) piece.now held.old held.new out.new result }
+    requires { Carries (given head.old zones.old cars.old spots.old starts.old entries.old rosters.old tallies.old) held.old out.old }
+    ensures { Carried (lent (as_written head) (as_written zones) (as_written cars) (as_written spots) (as_written starts) (as_written entries) (as_written rosters) (as_written tallies)) piece.now held.old held.new out.new result }
 {
     let mut at = 0;
     let mut read = piece.len();

@@ -1,4 +1,6 @@
 // The squares of a cell looked into.
+#![tactic(auto)]
+
 mod looks; // looks.rt: the squares of a cell looked into
 mod climb; // climb.rt: the first square of a cell that has a zone
 

@@ -7,14 +7,14 @@ ghost use Rattle.lookup.specs.Looks.{Looks, Crosses};
 use squares::Shape;
 
 // How many squares were looked into, and how many zones stand at the front of the buffer.
-#[derive(Drop)]
+#[derive(Clone, Copy)]
 pub struct Looked {
     pub squares: u32,
     pub zones: usize,
 }
 
 // How many squares were looked into, and how many zones stand at the front of each buffer.
-#[derive(Drop)]
+#[derive(Clone, Copy)]
 pub struct Crossed {
     pub squares: u32,
     pub entered: usize,

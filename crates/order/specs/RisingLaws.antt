@@ -49,6 +49,9 @@ pub insert-there : (x : ℕ) (ys : List ℕ) → insert x (x ∷ ys) ≡ x ∷ y
 unfolding insert
 insert-there x ys = rw (le-ltb x x (omega arith), eq-eqb x x refl)
 
+pub insert-equal : (x y : ℕ) (ys : List ℕ) → x ≡ y → insert x (y ∷ ys) ≡ y ∷ ys
+insert-equal x y ys e = ap (λ (w : ℕ). insert w (y ∷ ys)) e ∙ insert-there y ys
+
 pub insert-above : (x y : ℕ) (ys : List ℕ) → y < x → insert x (y ∷ ys) ≡ y ∷ insert x ys
 unfolding insert
 insert-above x y ys h = rw (le-ltb x y (omega arith), ne_eqb x y (λ (e : x ≡ y). omega arith))
@@ -59,7 +62,7 @@ insert→ x [] z m = Memᴰ.cases_cons m
 insert→ x (y ∷ ys) z m = ⊎_elim
     (λ (h : x < y). Memᴰ.cases_cons (rw (insert-below x y ys h) at m))
     (⊎_elim
-    (λ (e : x ≡ y). inr (rw (ap (λ (w : ℕ). insert w (y ∷ ys)) e ∙ insert-there y ys) at m))
+    (λ (e : x ≡ y). inr (rw (insert-equal x y ys e) at m))
     (λ (h : y < x). ⊎_elim (λ (e : z ≡ y). inr (Memᴰ.head e)) (λ (n : Memᴰ z (insert x ys)). ⊎_elim (λ (e : z ≡ x). inl e) (λ (k : Memᴰ z ys). inr (Memᴰ.tail k)) (insert→ x ys z n)) (Memᴰ.cases_cons (rw (insert-above x y ys h) at m))))
     (lt-or-eq-or-gt x y)
 
@@ -69,7 +72,7 @@ insert-new x [] = Memᴰ.head refl
 insert-new x (y ∷ ys) = ⊎_elim
     (λ (h : x < y). rw (insert-below x y ys h) (Memᴰ.head refl))
     (⊎_elim
-    (λ (e : x ≡ y). rw (e, insert-there y ys) (Memᴰ.head refl))
+    (λ (e : x ≡ y). rw (insert-equal x y ys e) (Memᴰ.head e))
     (λ (h : y < x). rw (insert-above x y ys h) (Memᴰ.tail (insert-new x ys))))
     (lt-or-eq-or-gt x y)
 
@@ -88,7 +91,7 @@ rising-insert x [] r = more (λ y m. absurd (Memᴰ.not-nil m)) none
 rising-insert x (y ∷ ys) (more h r) = ⊎_elim
     (λ (b : x < y). rw (insert-below x y ys b) (more {x = x} (λ z m. ⊎_elim (λ (e : z ≡ y). omega arith) (λ (n : Memᴰ z ys). let g = h z n in omega arith) (Memᴰ.cases_cons m)) (more h r)))
     (⊎_elim
-    (λ (e : x ≡ y). rw (e, insert-there y ys) (more h r))
+    (λ (e : x ≡ y). rw (insert-equal x y ys e) (more h r))
     (λ (b : y < x). rw (insert-above x y ys b) (more {x = y} (λ z m. ⊎_elim (λ (e : z ≡ x). omega arith) (h z) (insert→ x ys z m)) (rising-insert x ys r))))
     (lt-or-eq-or-gt x y)
 
@@ -99,7 +102,7 @@ insert-length x [] = (omega arith, omega arith)
 insert-length x (y ∷ ys) = ⊎_elim
     (λ (h : x < y). rw (insert-below x y ys h) (omega arith, omega arith))
     (⊎_elim
-    (λ (e : x ≡ y). rw (e, insert-there y ys) (omega arith, omega arith))
+    (λ (e : x ≡ y). rw (insert-equal x y ys e) (omega arith, omega arith))
     (λ (h : y < x). let g = insert-length x ys in rw (insert-above x y ys h) (omega arith, omega arith)))
     (lt-or-eq-or-gt x y)
 

@@ -1,4 +1,6 @@
 // Numbers in order at the front of a lent buffer.
+#![tactic(auto)]
+
 ghost use Rattle.std.specs.Prelude.{◌≤◌, ◌≡◌, ◌∷◌, length, set, take};
 ghost use Rattle.order.specs.Buffer.{Ranked, Put, Lower, ends_below};
 

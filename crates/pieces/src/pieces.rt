@@ -1,6 +1,6 @@
 // A piece of the input answered line by line, and what is held at the input's end.
 ghost use Rattle.std.specs.Prelude.{◌≤◌, ◌≡◌, [], length, take};
-ghost use Rattle.tables.specs.Lent.{lent, given};
+ghost use Rattle.tables.specs.Lent.{lent, given, as_read, as_written};
 ghost use Rattle.season.specs.Output.{line_of};
 ghost use Rattle.room.specs.Room.{Roomed};
 ghost use Rattle.pieces.specs.Pieces.{held_in, holding, fill, finish};
@@ -10,7 +10,7 @@ use steps::step;
 use tables::TALLY;
 
 // Refused by a number, or how many bytes of the piece were read and how many of the buffer were written.
-#[derive(Drop)]
+#[derive(Clone, Copy)]
 pub enum Filling {
     Refused(u32),
     Done(usize, usize),
@@ -29,7 +29,7 @@ pub fn refuse(
     held: &[u8],
     out: &[u8],
 ) -> u32
-    ensures { Refuses (lent head zones cars spots starts entries rosters tallies).entry held.now out.now result }
+    ensures { Refuses (lent (as_read head) (as_read zones) (as_read cars) (as_read spots) (as_read starts) (as_read entries) (as_read rosters) (as_read tallies)).entry held.now out.now result }
 {
     if head.len() != 6 {
         return 3;
@@ -104,8 +104,8 @@ fn answer_line(
     line: &[u8],
     out: &mut [u8],
 ) -> usize
-    requires { Roomed (given head zones cars spots starts entries rosters tallies) }
-    ensures { Answers (lent head zones cars spots starts entries rosters tallies) ended (line_of line.now) out.old out.new result }
+    requires { Roomed (given head.old zones.old cars.old spots.old starts.old entries.old rosters.old tallies.old) }
+    ensures { Answers (lent (as_written head) (as_written zones) (as_written cars) (as_written spots) (as_written starts) (as_written entries) (as_written rosters) (as_written tallies)) ended (line_of line.now) out.old out.new result }
 {
     if !ended {
         return 0;
@@ -129,8 +129,8 @@ pub fn fill_lines(
     held: &mut [u8],
     out: &mut [u8],
 ) -> Filling
-    requires { Lending (given head zones cars spots starts entries rosters tallies) held.old out.old }
-    ensures { Passes (fill (length out.old) (lent head zones cars spots starts entries rosters tallies).entry (held_in held.old) piece.now) (lent head zones cars spots starts entries rosters tallies) piece.now held.new out.old out.new result }
+    requires { Lending (given head.old zones.old cars.old spots.old starts.old entries.old rosters.old tallies.old) held.old out.old }
+    ensures { Passes (fill (length out.old) (lent (as_written head) (as_written zones) (as_written cars) (as_written spots) (as_written starts) (as_written entries) (as_written rosters) (as_written tallies)).entry (held_in held.old) piece.now) (lent (as_written head) (as_written zones) (as_written cars) (as_written spots) (as_written starts) (as_written entries) (as_written rosters) (as_written tallies)) piece.now held.new out.old out.new result }
 {
     let mut at = 0;
     let mut many = held[81] as usize;
@@ -171,8 +171,8 @@ pub fn fill_last(
     held: &mut [u8],
     out: &mut [u8],
 ) -> Filling
-    requires { Lending (given head zones cars spots starts entries rosters tallies) held.old out.old }
-    ensures { Passes (finish (lent head zones cars spots starts entries rosters tallies).entry (held_in held.old)) (lent head zones cars spots starts entries rosters tallies) [] held.new out.old out.new result }
+    requires { Lending (given head.old zones.old cars.old spots.old starts.old entries.old rosters.old tallies.old) held.old out.old }
+    ensures { Passes (finish (lent (as_written head) (as_written zones) (as_written cars) (as_written spots) (as_written starts) (as_written entries) (as_written rosters) (as_written tallies)).entry (held_in held.old)) (lent (as_written head) (as_written zones) (as_written cars) (as_written spots) (as_written starts) (as_written entries) (as_written rosters) (as_written tallies)) [] held.new out.old out.new result }
 {
     let many = held[81] as usize;
     let some = many > 0;

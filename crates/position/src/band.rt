@@ -8,7 +8,7 @@ use crate::Position;
 use squares::{Rect, Shape};
 
 // The floats of a stretch of cells: from `low` on and below `end`, or `wall`.
-#[derive(Drop)]
+#[derive(Clone, Copy)]
 pub struct Band {
     pub low: f32,
     pub end: f32,

@@ -1,5 +1,7 @@
 // A float's cell (document 01, "Positions"): whether a coordinate is on the map, and in which cell.
 // Whether it is on the map is told by comparing floats; the cell is worked out on the bits, in whole numbers.
+#![tactic(auto)]
+
 mod band; // band.rt: the floats of a stretch of cells
 
 ghost use Rattle.std.specs.Prelude.{◌≡◌, ◌+◌, ◌*◌, ◌/◌, ◌^◌, ◌≤◌};
@@ -13,21 +15,21 @@ use band::{band_of, in_band};
 use squares::Shape;
 
 // Two coordinates kept together: x counts from the west wall, y from the south wall.
-#[derive(Drop)]
+#[derive(Clone, Copy)]
 pub struct Position {
     pub x: f32,
     pub y: f32,
 }
 
 // A coordinate is off the map, or in a cell.
-#[derive(Drop)]
+#[derive(Clone, Copy)]
 pub enum Coordinate {
     Off,
     Cell(u32),
 }
 
 // A position is off the map, or in a column and a row.
-#[derive(Drop)]
+#[derive(Clone, Copy)]
 pub enum Spot {
     Off,
     Cell(u32, u32),

@@ -1,7 +1,7 @@
 // The refusals that several calls share.
 ghost use Rattle.std.specs.Prelude.{◌≡◌};
 ghost use Rattle.model.specs.Model.{removing, ask_where};
-ghost use Rattle.tables.specs.Lent.{lent};
+ghost use Rattle.tables.specs.Lent.{lent, as_read};
 ghost use Rattle.promises.specs.Promise.{bars};
 
 // What a call on a standing zone asks: 3, 4, 7.
@@ -16,7 +16,7 @@ pub fn refuse_zone(
     tallies: &[u32],
     zone: u32,
 ) -> u32
-    ensures { result ≡ bars (lent head zones cars spots starts entries rosters tallies).entry (removing zone) }
+    ensures { result ≡ bars (lent (as_read head) (as_read zones) (as_read cars) (as_read spots) (as_read starts) (as_read entries) (as_read rosters) (as_read tallies)).entry (removing zone) }
 {
     if !tables::sized(head, zones, cars, spots, starts, entries, rosters, tallies) {
         return 3;
@@ -42,7 +42,7 @@ pub fn refuse_car(
     tallies: &[u32],
     car: u32,
 ) -> u32
-    ensures { result ≡ bars (lent head zones cars spots starts entries rosters tallies).entry (ask_where car) }
+    ensures { result ≡ bars (lent (as_read head) (as_read zones) (as_read cars) (as_read spots) (as_read starts) (as_read entries) (as_read rosters) (as_read tallies)).entry (ask_where car) }
 {
     if !tables::sized(head, zones, cars, spots, starts, entries, rosters, tallies) {
         return 3;

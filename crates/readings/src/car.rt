@@ -1,5 +1,5 @@
 // Where a car is.
-ghost use Rattle.tables.specs.Lent.{lent};
+ghost use Rattle.tables.specs.Lent.{lent, as_read};
 ghost use Rattle.promises.specs.Promise.{Keeps};
 ghost use Rattle.promises.specs.Events.{where_told};
 
@@ -17,7 +17,7 @@ pub fn where_is_car(
     tallies: &[u32],
     car: u32,
 ) -> WhereIs
-    ensures { Keeps (lent head zones cars spots starts entries rosters tallies) (where_told car result) }
+    ensures { Keeps (lent (as_read head) (as_read zones) (as_read cars) (as_read spots) (as_read starts) (as_read entries) (as_read rosters) (as_read tallies)) (where_told car result) }
 {
     let refusal = promises::refuse_car(
         head, zones, cars, spots, starts, entries, rosters, tallies, car,

@@ -1,5 +1,5 @@
 // How many cars are in a zone.
-ghost use Rattle.tables.specs.Lent.{lent};
+ghost use Rattle.tables.specs.Lent.{lent, as_read};
 ghost use Rattle.promises.specs.Promise.{Keeps};
 ghost use Rattle.promises.specs.Events.{count_told};
 
@@ -17,7 +17,7 @@ pub fn count_of_zone(
     tallies: &[u32],
     zone: u32,
 ) -> CountOf
-    ensures { Keeps (lent head zones cars spots starts entries rosters tallies) (count_told zone result) }
+    ensures { Keeps (lent (as_read head) (as_read zones) (as_read cars) (as_read spots) (as_read starts) (as_read entries) (as_read rosters) (as_read tallies)) (count_told zone result) }
 {
     let refusal = promises::refuse_zone(
         head, zones, cars, spots, starts, entries, rosters, tallies, zone,

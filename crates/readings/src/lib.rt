@@ -1,4 +1,6 @@
 // The calls that only read: search, scoring, roster, count, holder, where a car is, soundness.
+#![tactic(auto)]
+
 mod search; // search.rt: the zones that hold a position
 mod scoring; // scoring.rt: whether any zone holds a position
 mod roster; // roster.rt: the cars of a zone

@@ -1,7 +1,7 @@
 // The cars of a zone.
 ghost use Rattle.std.specs.Prelude.{◌≡◌};
 ghost use Rattle.model.specs.Model.{ask_roster};
-ghost use Rattle.tables.specs.Lent.{lent};
+ghost use Rattle.tables.specs.Lent.{lent, as_read};
 ghost use Rattle.promises.specs.Promise.{bars, Keeps};
 ghost use Rattle.promises.specs.Events.{roster_told};
 
@@ -19,7 +19,7 @@ fn refuse_roster(
     zone: u32,
     inside: &[u32],
 ) -> u32
-    ensures { result ≡ bars (lent head zones cars spots starts entries rosters tallies).entry (ask_roster zone inside.now) }
+    ensures { result ≡ bars (lent (as_read head) (as_read zones) (as_read cars) (as_read spots) (as_read starts) (as_read entries) (as_read rosters) (as_read tallies)).entry (ask_roster zone inside.now) }
 {
     let refusal = promises::refuse_zone(
         head, zones, cars, spots, starts, entries, rosters, tallies, zone,
@@ -46,7 +46,7 @@ pub fn roster_of_zone(
     zone: u32,
     inside: &mut [u32],
 ) -> RosterOf
-    ensures { Keeps (lent head zones cars spots starts entries rosters tallies) (roster_told zone inside result) }
+    ensures { Keeps (lent (as_read head) (as_read zones) (as_read cars) (as_read spots) (as_read starts) (as_read entries) (as_read rosters) (as_read tallies)) (roster_told zone inside result) }
 {
     let refusal = refuse_roster(
         head, zones, cars, spots, starts, entries, rosters, tallies, zone, inside,

@@ -1,5 +1,5 @@
 // Whether any zone holds a position.
-ghost use Rattle.tables.specs.Lent.{lent};
+ghost use Rattle.tables.specs.Lent.{lent, as_read};
 ghost use Rattle.promises.specs.Promise.{Keeps};
 ghost use Rattle.promises.specs.Events.{scoring_told};
 
@@ -19,7 +19,7 @@ pub fn scoring_of_spot(
     tallies: &[u32],
     p: Position,
 ) -> ScoringOf
-    ensures { Keeps (lent head zones cars spots starts entries rosters tallies) (scoring_told p result) }
+    ensures { Keeps (lent (as_read head) (as_read zones) (as_read cars) (as_read spots) (as_read starts) (as_read entries) (as_read rosters) (as_read tallies)) (scoring_told p result) }
 {
     if !tables::sized(head, zones, cars, spots, starts, entries, rosters, tallies) {
         return ScoringOf::Refused(3);

@@ -1,7 +1,7 @@
 // The zones that hold a position.
 ghost use Rattle.std.specs.Prelude.{◌≡◌};
 ghost use Rattle.model.specs.Model.{searching};
-ghost use Rattle.tables.specs.Lent.{lent};
+ghost use Rattle.tables.specs.Lent.{lent, as_read};
 ghost use Rattle.promises.specs.Promise.{bars, Keeps};
 ghost use Rattle.promises.specs.Events.{searched};
 
@@ -21,7 +21,7 @@ fn refuse_search(
     p: Position,
     found: &[u32],
 ) -> u32
-    ensures { result ≡ bars (lent head zones cars spots starts entries rosters tallies).entry (searching p found.now) }
+    ensures { result ≡ bars (lent (as_read head) (as_read zones) (as_read cars) (as_read spots) (as_read starts) (as_read entries) (as_read rosters) (as_read tallies)).entry (searching p found.now) }
 {
     if !tables::sized(head, zones, cars, spots, starts, entries, rosters, tallies) {
         return 3;
@@ -49,7 +49,7 @@ pub fn search_zones(
     p: Position,
     found: &mut [u32],
 ) -> Searched
-    ensures { Keeps (lent head zones cars spots starts entries rosters tallies) (searched p found result) }
+    ensures { Keeps (lent (as_read head) (as_read zones) (as_read cars) (as_read spots) (as_read starts) (as_read entries) (as_read rosters) (as_read tallies)) (searched p found result) }
 {
     let refusal = refuse_search(
         head, zones, cars, spots, starts, entries, rosters, tallies, p, found,

@@ -1,5 +1,5 @@
 // Soundness: whether the tables hold what their records give.
-ghost use Rattle.tables.specs.Lent.{lent};
+ghost use Rattle.tables.specs.Lent.{lent, as_read};
 ghost use Rattle.promises.specs.Promise.{Keeps};
 ghost use Rattle.promises.specs.Events.{soundness_told};
 
@@ -16,7 +16,7 @@ pub fn soundness_of_town(
     rosters: &[u8],
     tallies: &[u32],
 ) -> SoundnessOf
-    ensures { Keeps (lent head zones cars spots starts entries rosters tallies) (soundness_told result) }
+    ensures { Keeps (lent (as_read head) (as_read zones) (as_read cars) (as_read spots) (as_read starts) (as_read entries) (as_read rosters) (as_read tallies)) (soundness_told result) }
 {
     if !tables::sized(head, zones, cars, spots, starts, entries, rosters, tallies) {
         return SoundnessOf::Refused(3);

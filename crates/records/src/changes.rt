@@ -1,5 +1,5 @@
 // The records that change the tables: M, A, D, P and L.
-ghost use Rattle.tables.specs.Lent.{lent, given};
+ghost use Rattle.tables.specs.Lent.{lent, given, as_read, as_written};
 ghost use Rattle.season.specs.Output.{call_of};
 ghost use Rattle.room.specs.Room.{Roomed};
 ghost use Rattle.records.specs.Replies.{Replies};
@@ -25,8 +25,8 @@ pub fn open_record(
     Q: u32,
     out: &mut [u8],
 ) -> usize
-    requires { Roomed (given head zones cars spots starts entries rosters tallies) }
-    ensures { Replies (lent head zones cars spots starts entries rosters tallies) (call_of (Open k P Q)) out.old out.new result }
+    requires { Roomed (given head.old zones.old cars.old spots.old starts.old entries.old rosters.old tallies.old) }
+    ensures { Replies (lent (as_written head) (as_written zones) (as_written cars) (as_written spots) (as_written starts) (as_written entries) (as_written rosters) (as_written tallies)) (call_of (Open k P Q)) out.old out.new result }
 {
     match open_room(k, P, Q) {
         RoomFor::Refused(n) => write_opened(Opened::Refused(n), out),
@@ -66,8 +66,8 @@ pub fn add_record(
     r: Rect,
     out: &mut [u8],
 ) -> usize
-    requires { Roomed (given head zones cars spots starts entries rosters tallies) }
-    ensures { Replies (lent head zones cars spots starts entries rosters tallies) (call_of (Add zone r.a r.b r.w r.h)) out.old out.new result }
+    requires { Roomed (given head.now zones.old cars.now spots.now starts.old entries.old rosters.old tallies.old) }
+    ensures { Replies (lent (as_read head) (as_written zones) (as_read cars) (as_read spots) (as_written starts) (as_written entries) (as_written rosters) (as_written tallies)) (call_of (Add zone r.a r.b r.w r.h)) out.old out.new result }
 {
     let many = places_in(head, starts);
     let answer = zones::add_zone(
@@ -98,8 +98,8 @@ pub fn remove_record(
     zone: u32,
     out: &mut [u8],
 ) -> usize
-    requires { Roomed (given head zones cars spots starts entries rosters tallies) }
-    ensures { Replies (lent head zones cars spots starts entries rosters tallies) (call_of (Remove zone)) out.old out.new result }
+    requires { Roomed (given head.now zones.old cars.now spots.now starts.old entries.old rosters.old tallies.old) }
+    ensures { Replies (lent (as_read head) (as_written zones) (as_read cars) (as_read spots) (as_written starts) (as_written entries) (as_written rosters) (as_written tallies)) (call_of (Remove zone)) out.old out.new result }
 {
     let many = places_in(head, starts);
     let answer = zones::remove_zone(
@@ -131,8 +131,8 @@ pub fn report_record(
     y: u32,
     out: &mut [u8],
 ) -> usize
-    requires { Roomed (given head zones cars spots starts entries rosters tallies) }
-    ensures { Replies (lent head zones cars spots starts entries rosters tallies) (call_of (Report car x y)) out.old out.new result }
+    requires { Roomed (given head.now zones.now cars.old spots.old starts.now entries.now rosters.old tallies.old) }
+    ensures { Replies (lent (as_read head) (as_read zones) (as_written cars) (as_written spots) (as_read starts) (as_read entries) (as_written rosters) (as_written tallies)) (call_of (Report car x y)) out.old out.new result }
 {
     let many = places_in(head, starts);
     let mut entered = [0u32; 16];
@@ -168,8 +168,8 @@ pub fn leave_record(
     car: u32,
     out: &mut [u8],
 ) -> usize
-    requires { Roomed (given head zones cars spots starts entries rosters tallies) }
-    ensures { Replies (lent head zones cars spots starts entries rosters tallies) (call_of (Leave car)) out.old out.new result }
+    requires { Roomed (given head.now zones.now cars.old spots.now starts.now entries.now rosters.old tallies.old) }
+    ensures { Replies (lent (as_read head) (as_read zones) (as_written cars) (as_read spots) (as_read starts) (as_read entries) (as_written rosters) (as_written tallies)) (call_of (Leave car)) out.old out.new result }
 {
     let many = places_in(head, starts);
     let mut left = [0u32; 16];

@@ -1,4 +1,6 @@
 // One function for each record of the log.
+#![tactic(auto)]
+
 mod changes; // changes.rt: the records that change the tables
 mod looks; // looks.rt: the records that only read them
 

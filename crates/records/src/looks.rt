@@ -1,5 +1,5 @@
 // The records that only read the tables: S and R.
-ghost use Rattle.tables.specs.Lent.{lent, given};
+ghost use Rattle.tables.specs.Lent.{lent, given, as_read};
 ghost use Rattle.season.specs.Output.{call_of};
 ghost use Rattle.room.specs.Room.{Roomed};
 ghost use Rattle.records.specs.Replies.{Replies};
@@ -22,8 +22,8 @@ pub fn search_record(
     y: u32,
     out: &mut [u8],
 ) -> usize
-    requires { Roomed (given head zones cars spots starts entries rosters tallies) }
-    ensures { Replies (lent head zones cars spots starts entries rosters tallies) (call_of (Search x y)) out.old out.new result }
+    requires { Roomed (given head.now zones.now cars.now spots.now starts.now entries.now rosters.now tallies.now) }
+    ensures { Replies (lent (as_read head) (as_read zones) (as_read cars) (as_read spots) (as_read starts) (as_read entries) (as_read rosters) (as_read tallies)) (call_of (Search x y)) out.old out.new result }
 {
     let many = places_in(head, starts);
     let mut found = [0u32; 16];
@@ -55,8 +55,8 @@ pub fn roster_record(
     zone: u32,
     out: &mut [u8],
 ) -> usize
-    requires { Roomed (given head zones cars spots starts entries rosters tallies) }
-    ensures { Replies (lent head zones cars spots starts entries rosters tallies) (call_of (Roster zone)) out.old out.new result }
+    requires { Roomed (given head.now zones.now cars.now spots.now starts.now entries.now rosters.now tallies.now) }
+    ensures { Replies (lent (as_read head) (as_read zones) (as_read cars) (as_read spots) (as_read starts) (as_read entries) (as_read rosters) (as_read tallies)) (call_of (Roster zone)) out.old out.new result }
 {
     let many = places_in(head, starts);
     let mut inside = [0u32; 64];

@@ -39,7 +39,7 @@ tables_of t ls = after_lines t (map line_of ls)
 pub ready-lines : {t : Tables} → Ready t → (ls : List (List ℕ)) → Ready (tables_of t ls)
 unfolding after_lines
 ready-lines r [] = r
-ready-lines r (l ∷ ls) = ready-lines (ready-after r (meaning l)) ls
+ready-lines {t = t} r (l ∷ ls) = ready-lines {t = tables_after t (line_of l)} (ready-after r (meaning l)) ls
 
 pub tables-append : (t : Tables) (ls ms : List (List ℕ)) → tables_of t (ls ++ ms) ≡ tables_of (tables_of t ls) ms
 unfolding after_lines
@@ -53,8 +53,8 @@ text-more {t} r l ls = ap (λ (m : Town). reply (town_of t) (line_of l) ++ answe
 text-append : {t : Tables} → Ready t → (ls ms : List (List ℕ)) → replies_of t (ls ++ ms) ≡ replies_of t ls ++ replies_of (tables_of t ls) ms
 unfolding after_lines answers
 text-append r [] ms = refl
-text-append {t} r (l ∷ ls) ms =
-    text-more r l (ls ++ ms) ∙ ap (λ (x : List ℕ). reply (town_of t) (line_of l) ++ x) (text-append (ready-after r (meaning l)) ls ms)
+text-append {t = t} r (l ∷ ls) ms =
+    text-more r l (ls ++ ms) ∙ ap (λ (x : List ℕ). reply (town_of t) (line_of l) ++ x) (text-append {t = tables_after t (line_of l)} (ready-after r (meaning l)) ls ms)
     ∙ sym (append_assoc (reply (town_of t) (line_of l)) (replies_of (tables_after t (line_of l)) ls) (replies_of (tables_of (tables_after t (line_of l)) ls) ms))
     ∙ ap (λ (x : List ℕ). x ++ replies_of (tables_of (tables_after t (line_of l)) ls) ms) (sym (text-more r l ls))
 

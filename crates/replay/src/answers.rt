@@ -1,6 +1,6 @@
 // A piece of the log, and its end.
 ghost use Rattle.std.specs.Prelude.{[], length};
-ghost use Rattle.tables.specs.Lent.{lent};
+ghost use Rattle.tables.specs.Lent.{lent, as_written};
 ghost use Rattle.pieces.specs.Pieces.{held_in, fill, finish, Fills};
 
 use pieces::{Filling, fill_last, fill_lines, refuse};
@@ -19,7 +19,7 @@ pub fn answer_piece(
     held: &mut [u8],
     out: &mut [u8],
 ) -> Filling
-    ensures { Fills (fill (length out.old) (lent head zones cars spots starts entries rosters tallies).entry (held_in held.old) piece.now) (lent head zones cars spots starts entries rosters tallies) piece.now held.old held.new out.old out.new result }
+    ensures { Fills (fill (length out.old) (lent (as_written head) (as_written zones) (as_written cars) (as_written spots) (as_written starts) (as_written entries) (as_written rosters) (as_written tallies)).entry (held_in held.old) piece.now) (lent (as_written head) (as_written zones) (as_written cars) (as_written spots) (as_written starts) (as_written entries) (as_written rosters) (as_written tallies)) piece.now held.old held.new out.old out.new result }
 {
     let refused = refuse(
         head, zones, cars, spots, starts, entries, rosters, tallies, held, out,
@@ -45,7 +45,7 @@ pub fn answer_end(
     held: &mut [u8],
     out: &mut [u8],
 ) -> Filling
-    ensures { Fills (finish (lent head zones cars spots starts entries rosters tallies).entry (held_in held.old)) (lent head zones cars spots starts entries rosters tallies) [] held.old held.new out.old out.new result }
+    ensures { Fills (finish (lent (as_written head) (as_written zones) (as_written cars) (as_written spots) (as_written starts) (as_written entries) (as_written rosters) (as_written tallies)).entry (held_in held.old)) (lent (as_written head) (as_written zones) (as_written cars) (as_written spots) (as_written starts) (as_written entries) (as_written rosters) (as_written tallies)) [] held.old held.new out.old out.new result }
 {
     let refused = refuse(
         head, zones, cars, spots, starts, entries, rosters, tallies, held, out,

@@ -9,7 +9,7 @@ use entries::write_keys;
 use squares::{Rect, Shape};
 
 // Where they stand: so many that are dropped at the front, and so many that are taken up from a place on, all among the first n.
-#[derive(Drop)]
+#[derive(Clone, Copy)]
 pub struct Changes {
     pub gone: usize,
     pub at: usize,

@@ -1,4 +1,6 @@
 // The keys of a zone that rides, exchanged for those of its new place in one pass, and the starts that go with them.
+#![tactic(auto)]
+
 mod part; // part.rt: what two rising lists have not in common
 mod apart; // apart.rt: the keys that only one of two rectangles has
 mod changes; // changes.rt: the keys dropped and taken up

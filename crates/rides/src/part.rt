@@ -5,7 +5,7 @@ ghost use Rattle.rides.specs.Part.{Parted};
 use order::is_lower;
 
 // How many keys are dropped, and how many are taken up.
-#[derive(Drop)]
+#[derive(Clone, Copy)]
 pub struct Parts {
     pub gone: usize,
     pub come: usize,

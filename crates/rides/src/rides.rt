@@ -10,7 +10,7 @@ use squares::{Rect, Shape};
 use starts::{set_starts, swap_starts};
 
 // How many squares a ride drops and takes up.
-#[derive(Drop)]
+#[derive(Clone, Copy)]
 pub struct Rode {
     pub gone: usize,
     pub come: usize,

@@ -8,7 +8,7 @@ use position::Position;
 use squares::{Shape, Shaped};
 
 // The number that refuses an M, or how many starts its town needs.
-#[derive(Drop)]
+#[derive(Clone, Copy)]
 pub enum RoomFor {
     Refused(u32),
     Starts(usize),

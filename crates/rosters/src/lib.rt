@@ -1,4 +1,6 @@
 // The rosters, written: a zone's row cleared or set to the cars in a rectangle, a car's bytes set.
+#![tactic(auto)]
+
 mod rows; // rows.rt: a row of the rosters, written
 mod inside; // inside.rt: the cars in a rectangle
 mod ride; // ride.rt: a row set anew, and the cars that come and go

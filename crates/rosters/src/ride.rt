@@ -12,7 +12,7 @@ use squares::{Rect, Shape};
 use tables::car_between;
 
 // How many cars a ride brought in, and how many it left behind.
-#[derive(Drop)]
+#[derive(Clone, Copy)]
 pub struct CarsMoved {
     pub entered: usize,
     pub left: usize,

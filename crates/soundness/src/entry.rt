@@ -7,7 +7,7 @@ use squares::Shape;
 use tables::rect_in;
 
 // A square by its level and its number there.
-#[derive(Drop)]
+#[derive(Clone, Copy)]
 pub struct Leveled {
     pub level: u32,
     pub number: u32,

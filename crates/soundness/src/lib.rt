@@ -1,4 +1,6 @@
 // Soundness: whether what is derived from the records stands in the tables as it should.
+#![tactic(auto)]
+
 mod entry; // entry.rt: an entry's key
 mod lists; // lists.rt: the squares' lists, checked
 mod roster; // roster.rt: the rosters, checked

@@ -1,6 +1,6 @@
 // Soundness: the zones and the cars, and all together.
 ghost use Rattle.std.specs.Prelude.{◌<◌, ◌≡◌};
-ghost use Rattle.tables.specs.Lent.{lent, given};
+ghost use Rattle.tables.specs.Lent.{lent, given, as_read};
 ghost use Rattle.tables.specs.Sizes.{Sized};
 ghost use Rattle.tables.specs.Asks.{Parked};
 ghost use Rattle.soundness.specs.Tests.{every, zone_fits, car_fits, sound, Zoned};
@@ -90,8 +90,8 @@ pub fn sound(
     rosters: &[u8],
     tallies: &[u32],
 ) -> bool
-    requires { Sized (given head zones cars spots starts entries rosters tallies) }
-    ensures { result ≡ sound (lent head zones cars spots starts entries rosters tallies).entry }
+    requires { Sized (given head.now zones.now cars.now spots.now starts.now entries.now rosters.now tallies.now) }
+    ensures { result ≡ sound (lent (as_read head) (as_read zones) (as_read cars) (as_read spots) (as_read starts) (as_read entries) (as_read rosters) (as_read tallies)).entry }
 {
     let s = shape_in(head);
     let Z = wide(zone_room(head));

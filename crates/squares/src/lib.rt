@@ -1,4 +1,6 @@
 // A town's shape, its squares and their numbers, and its rectangles.
+#![tactic(auto)]
+
 mod powers; // powers.rt: powers of two and four, bits interleaved and taken apart
 mod shape; // shape.rt: the shape, a rectangle, a square, and what comes from the shape
 mod differ; // differ.rt: on how many levels two cells lie in different squares

@@ -10,7 +10,7 @@ ghost use Rattle.squares.specs.Leaves.{Positive, Below, OnMap, OnLevel};
 use crate::powers::{evens_of, four_to, interleaved, two_to};
 
 // k, P and Q of a town: blocks of side 2^k, P of them west to east and Q south to north.
-#[derive(Drop)]
+#[derive(Clone, Copy)]
 pub struct Shape {
     pub k: u32,
     pub P: u32,
@@ -18,7 +18,7 @@ pub struct Shape {
 }
 
 // The cells from column a and row b on, w columns and h rows of them.
-#[derive(Drop)]
+#[derive(Clone, Copy)]
 pub struct Rect {
     pub a: u32,
     pub b: u32,
@@ -27,14 +27,14 @@ pub struct Rect {
 }
 
 // A square by its southwest corner and its side.
-#[derive(Drop)]
+#[derive(Clone, Copy)]
 pub struct Square {
     pub x: u32,
     pub y: u32,
     pub side: u32,
 }
 
-#[derive(Drop)]
+#[derive(Clone, Copy)]
 pub enum Shaped {
     Refused(u32),
     Allowed(Shape),

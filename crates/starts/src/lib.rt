@@ -1,4 +1,6 @@
 // The starts, written: for each place, how many of the entries lie before it.
+#![tactic(auto)]
+
 mod starts; // starts.rt: the starts counted from the entries
 mod shift; // shift.rt: the starts moved by ranges
 mod swap; // swap.rt: the starts moved by keys dropped and keys taken up

@@ -1,5 +1,5 @@
 // One step: a line in, its answer out.
-ghost use Rattle.tables.specs.Lent.{lent, given};
+ghost use Rattle.tables.specs.Lent.{lent, given, as_written};
 ghost use Rattle.season.specs.Output.{line_of};
 ghost use Rattle.room.specs.Room.{Roomed};
 ghost use Rattle.records.specs.Replies.{Replies};
@@ -24,8 +24,8 @@ pub fn step(
     line: &[u8],
     out: &mut [u8],
 ) -> usize
-    requires { Roomed (given head zones cars spots starts entries rosters tallies) }
-    ensures { Replies (lent head zones cars spots starts entries rosters tallies) (line_of line.now) out.old out.new result }
+    requires { Roomed (given head.old zones.old cars.old spots.old starts.old entries.old rosters.old tallies.old) }
+    ensures { Replies (lent (as_written head) (as_written zones) (as_written cars) (as_written spots) (as_written starts) (as_written entries) (as_written rosters) (as_written tallies)) (line_of line.now) out.old out.new result }
 {
     match line::parse(line) {
         Record::Bad => texts::write_bad(out),

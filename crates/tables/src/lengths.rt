@@ -2,7 +2,7 @@
 ghost use Rattle.std.specs.Prelude.{◌≡◌};
 ghost use Rattle.squares.specs.Bounds.{Allowed};
 ghost use Rattle.model.specs.Model.{roomy};
-ghost use Rattle.tables.specs.Lent.{lent};
+ghost use Rattle.tables.specs.Lent.{lent, as_read};
 ghost use Rattle.tables.specs.Check.{long, sized};
 ghost use Rattle.tables.specs.Sizes.{Roomy};
 
@@ -52,7 +52,7 @@ pub fn long(
 ) -> bool
     requires allowed { Allowed s }
     requires roomy { Roomy Z C E }
-    ensures { result ≡ long s Z C E (lent head zones cars spots starts entries rosters tallies).entry }
+    ensures { result ≡ long s Z C E (lent (as_read head) (as_read zones) (as_read cars) (as_read spots) (as_read starts) (as_read entries) (as_read rosters) (as_read tallies)).entry }
 {
     let many_zones = Z as usize;
     let many_cars = C as usize;
@@ -94,7 +94,7 @@ pub fn sized(
     rosters: &[u8],
     tallies: &[u32],
 ) -> bool
-    ensures { result ≡ sized (lent head zones cars spots starts entries rosters tallies).entry }
+    ensures { result ≡ sized (lent (as_read head) (as_read zones) (as_read cars) (as_read spots) (as_read starts) (as_read entries) (as_read rosters) (as_read tallies)).entry }
 {
     if head.len() != 6 {
         return false;

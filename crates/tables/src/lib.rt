@@ -1,4 +1,6 @@
 // The lent tables: their layout, the check of their lengths, and the functions that read one.
+#![tactic(auto)]
+
 mod lengths; // lengths.rt: checks 2 and 3
 mod records; // records.rt: the shape and the capacities, a zone's rectangle, a car's team and position
 mod fill; // fill.rt: a whole table set to one number

@@ -4,7 +4,7 @@ ghost use Rattle.model.specs.Teams.{lead};
 ghost use Rattle.tallies.specs.Holder.{lead_of, Foremost};
 
 // A team that has so many cars and more than each other looked at, or 0 where two are level.
-#[derive(Drop)]
+#[derive(Clone, Copy)]
 struct Lead {
     cars: u32,
     team: u32,

@@ -1,4 +1,6 @@
 // The tallies, written: a zone's counts moved as a car enters and leaves, counted anew, cleared; and its holder.
+#![tactic(auto)]
+
 mod holder; // holder.rt: the team that holds a zone
 mod counts; // counts.rt: a zone's numbers
 

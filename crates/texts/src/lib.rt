@@ -1,4 +1,6 @@
 // The text that answers a line.
+#![tactic(auto)]
+
 mod texts; // texts.rt: a function for each answer that a log has
 
 pub use texts::{

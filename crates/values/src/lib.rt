@@ -1,4 +1,6 @@
 // What a call tells a caller in another language: one number returned, and values in a lent array.
+#![tactic(auto)]
+
 mod tell; // tell.rt: a number returned, and values stored
 mod answers; // answers.rt: each call's answer told
 

@@ -1,7 +1,7 @@
 // A zone added.
 ghost use Rattle.std.specs.Prelude.{◌≡◌};
 ghost use Rattle.model.specs.Model.{adding};
-ghost use Rattle.tables.specs.Lent.{lent};
+ghost use Rattle.tables.specs.Lent.{lent, as_read, as_written};
 ghost use Rattle.promises.specs.Promise.{bars, Keeps};
 ghost use Rattle.promises.specs.Events.{added};
 
@@ -21,7 +21,7 @@ fn refuse_new(
     zone: u32,
     r: Rect,
 ) -> u32
-    ensures { result ≡ bars (lent head zones cars spots starts entries rosters tallies).entry (adding zone r) }
+    ensures { result ≡ bars (lent (as_read head) (as_read zones) (as_read cars) (as_read spots) (as_read starts) (as_read entries) (as_read rosters) (as_read tallies)).entry (adding zone r) }
 {
     if !tables::sized(head, zones, cars, spots, starts, entries, rosters, tallies) {
         return 3;
@@ -51,7 +51,7 @@ pub fn add_zone(
     zone: u32,
     r: Rect,
 ) -> Added
-    ensures { Keeps (lent head zones cars spots starts entries rosters tallies) (added zone r result) }
+    ensures { Keeps (lent (as_read head) (as_written zones) (as_read cars) (as_read spots) (as_written starts) (as_written entries) (as_written rosters) (as_written tallies)) (added zone r result) }
 {
     let refusal = refuse_new(
         head, zones, cars, spots, starts, entries, rosters, tallies, zone, r,

@@ -1,4 +1,6 @@
 // The calls that make a town and its zones: open, add, remove.
+#![tactic(auto)]
+
 mod open; // open.rt: an empty town
 mod add; // add.rt: a zone added
 mod remove; // remove.rt: a zone taken away

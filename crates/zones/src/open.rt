@@ -1,7 +1,7 @@
 // An empty town.
 ghost use Rattle.std.specs.Prelude.{◌≡◌};
 ghost use Rattle.model.specs.Model.{opening};
-ghost use Rattle.tables.specs.Lent.{lent};
+ghost use Rattle.tables.specs.Lent.{lent, as_read, as_written};
 ghost use Rattle.promises.specs.Promise.{bars, Keeps};
 ghost use Rattle.promises.specs.Events.{asked, opened};
 
@@ -24,7 +24,7 @@ fn refuse_open(
     rosters: &[u8],
     tallies: &[u32],
 ) -> u32
-    ensures { result ≡ bars (lent head zones cars spots starts entries rosters tallies).entry (opening (asked k P Q Z C E)) }
+    ensures { result ≡ bars (lent (as_read head) (as_read zones) (as_read cars) (as_read spots) (as_read starts) (as_read entries) (as_read rosters) (as_read tallies)).entry (opening (asked k P Q Z C E)) }
 {
     let Shaped::Allowed(s) = Shape::new(k, P, Q) else {
         return 1;
@@ -58,7 +58,7 @@ pub fn open_town(
     C: u32,
     E: u32,
 ) -> Opened
-    ensures { Keeps (lent head zones cars spots starts entries rosters tallies) (opened (asked k P Q Z C E) result) }
+    ensures { Keeps (lent (as_written head) (as_written zones) (as_written cars) (as_written spots) (as_written starts) (as_written entries) (as_written rosters) (as_written tallies)) (opened (asked k P Q Z C E) result) }
 {
     let refusal = refuse_open(
         k, P, Q, Z, C, E, head, zones, cars, spots, starts, entries, rosters, tallies,

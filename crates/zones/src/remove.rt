@@ -1,5 +1,5 @@
 // A zone taken away.
-ghost use Rattle.tables.specs.Lent.{lent};
+ghost use Rattle.tables.specs.Lent.{lent, as_read, as_written};
 ghost use Rattle.promises.specs.Promise.{Keeps};
 ghost use Rattle.promises.specs.Events.{removed};
 
@@ -17,7 +17,7 @@ pub fn remove_zone(
     tallies: &mut [u32],
     zone: u32,
 ) -> Removed
-    ensures { Keeps (lent head zones cars spots starts entries rosters tallies) (removed zone result) }
+    ensures { Keeps (lent (as_read head) (as_written zones) (as_read cars) (as_read spots) (as_written starts) (as_written entries) (as_written rosters) (as_written tallies)) (removed zone result) }
 {
     let refusal = promises::refuse_zone(
         head, zones, cars, spots, starts, entries, rosters, tallies, zone,

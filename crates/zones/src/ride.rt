@@ -3,7 +3,7 @@ ghost use Rattle.std.specs.Prelude.{◌≤◌, ◌≡◌};
 ghost use Rattle.squares.specs.Shape.{most_entries};
 ghost use Rattle.squares.specs.Bounds.{Allowed, Fits};
 ghost use Rattle.model.specs.Model.{riding};
-ghost use Rattle.tables.specs.Lent.{lent};
+ghost use Rattle.tables.specs.Lent.{lent, as_read, as_written};
 ghost use Rattle.promises.specs.Promise.{bars, Keeps};
 ghost use Rattle.promises.specs.Events.{rode};
 ghost use Rattle.zones.specs.Rooms.{has_room};
@@ -27,7 +27,7 @@ fn refuse_ride(
     entered: &[u32],
     left: &[u32],
 ) -> u32
-    ensures { result ≡ bars (lent head zones cars spots starts entries rosters tallies).entry (riding zone dx dy entered.now left.now) }
+    ensures { result ≡ bars (lent (as_read head) (as_read zones) (as_read cars) (as_read spots) (as_read starts) (as_read entries) (as_read rosters) (as_read tallies)).entry (riding zone dx dy entered.now left.now) }
 {
     let refusal = promises::refuse_zone(
         head, zones, cars, spots, starts, entries, rosters, tallies, zone,
@@ -85,7 +85,7 @@ pub fn ride_zone(
     entered: &mut [u32],
     left: &mut [u32],
 ) -> Ridden
-    ensures { Keeps (lent head zones cars spots starts entries rosters tallies) (rode zone dx dy entered left result) }
+    ensures { Keeps (lent (as_read head) (as_written zones) (as_read cars) (as_read spots) (as_written starts) (as_written entries) (as_written rosters) (as_written tallies)) (rode zone dx dy entered left result) }
 {
     let refusal = refuse_ride(
         head, zones, cars, spots, starts, entries, rosters, tallies, zone, dx, dy, entered, left,

@@ -1,0 +1,10 @@
+use Prim.Native.Nat.{suc, ◌-◌, ◌*◌, ◌≤◌}
+use Rattle.cuts.specs.CountLaws.{CountTurn, count-begins, count_room, count-turns, count-ends}
+use borrow.Author.Rules.{rules}
+use Rattle.cuts.proofs.count.set_places.Given as goal
+
+abbrev pub invariant-loop-level : goal.invariant-loop-level
+invariant-loop-level l = CountTurn l.s l.r l.places l.total l.above l.level
+
+abbrev pub decreases-loop-level : goal.decreases-loop-level
+decreases-loop-level l = suc l.s.k - l.level

@@ -1,0 +1,12 @@
+use Prim.Native.Nat.{◌+◌, ◌-◌, ◌*◌}
+use Rattle.cuts.specs.Leaves.{Room}
+use Rattle.cuts.specs.LayLaws.{lays-length}
+use Rattle.cuts.specs.LoopLaws.{RowTurn, row-short, row-begins, row_room, row-turns, row_ends}
+use borrow.Author.Rules.{rules}
+use Rattle.cuts.proofs.descent.cut_row.Given as goal
+
+abbrev pub invariant-loop-column : goal.invariant-loop-column
+invariant-loop-column l = RowTurn l.s l.r l.row l.initial.out l.out l.initial.next l.next l.column
+
+abbrev pub decreases-loop-column : goal.decreases-loop-column
+decreases-loop-column l = l.end - l.column

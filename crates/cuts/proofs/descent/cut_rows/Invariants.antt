@@ -1,0 +1,11 @@
+use Prim.Native.Nat.{◌-◌}
+use Rattle.cuts.specs.LayLaws.{lays-length}
+use Rattle.cuts.specs.LoopLaws.{RowsTurn, rows_short, rows-begin, rows-room, rows-turn, rows-ends}
+use borrow.Author.Rules.{rules}
+use Rattle.cuts.proofs.descent.cut_rows.Given as goal
+
+abbrev pub invariant-loop-row : goal.invariant-loop-row
+invariant-loop-row l = RowsTurn l.s l.r l.initial.out l.out l.initial.next l.next l.row
+
+abbrev pub decreases-loop-row : goal.decreases-loop-row
+decreases-loop-row l = l.end - l.row

@@ -1,0 +1,9 @@
+use Rattle.std.proofs.Common.{◌-◌, refl, arith, rules}
+use Rattle.entries.specs.GapLaws.{Closing, close-begins, slide-room, found_within, close-stops, close-turns, close-ends}
+use Rattle.entries.proofs.gaps.close_gaps.Given as goal
+
+abbrev pub invariant-loop-gone : goal.invariant-loop-gone
+invariant-loop-gone l = Closing l.n l.u l.starts l.initial.entries l.entries l.from l.gone
+
+abbrev pub decreases-loop-gone : goal.decreases-loop-gone
+decreases-loop-gone l = l.n - l.gone

@@ -1,0 +1,9 @@
+use Rattle.std.proofs.Common.{◌-◌, arith, rules}
+use Rattle.entries.specs.GapLaws.{Sliding, slide-begins, slide-long, slide-turns, slide-ends, slide-still}
+use Rattle.entries.proofs.gaps.move_down.Given as goal
+
+abbrev pub invariant-loop-i : goal.invariant-loop-i
+invariant-loop-i l = Sliding l.initial.list l.list l.from l.end l.by l.i
+
+abbrev pub decreases-loop-i : goal.decreases-loop-i
+decreases-loop-i l = l.end - l.i

@@ -1,0 +1,11 @@
+use Rattle.std.proofs.Common.{◌-◌, length, ap, ◌∙◌, arith, rules}
+use Rattle.order.specs.SetLaws.{Setting, set-begins, set_next, set-turns, set-ends, map_each}
+use Rattle.entries.specs.Keys.{code_key}
+use Rattle.entries.specs.KeyLaws.{key_at}
+use Rattle.entries.proofs.keys.key_codes.Given as goal
+
+abbrev pub invariant-loop-i : goal.invariant-loop-i
+invariant-loop-i l = Setting (key_at l.s l.z l.initial.codes) l.initial.codes l.codes l.i
+
+abbrev pub decreases-loop-i : goal.decreases-loop-i
+decreases-loop-i l = length l.initial.codes - l.i

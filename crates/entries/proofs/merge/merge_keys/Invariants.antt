@@ -1,0 +1,9 @@
+use Rattle.std.proofs.Common.{◌≤◌, take, arith, rules}
+use Rattle.entries.specs.MergeLaws.{Merging, merge-begins, merge-turns, merge-ends}
+use Rattle.entries.proofs.merge.merge_keys.Given as goal
+
+abbrev pub invariant-loop-j : goal.invariant-loop-j
+invariant-loop-j l = (l.j ≤ l.n) × Merging l.starts l.initial.entries (take l.n l.starts) l.u l.entries l.end l.j
+
+abbrev pub decreases-loop-j : goal.decreases-loop-j
+decreases-loop-j l = l.j

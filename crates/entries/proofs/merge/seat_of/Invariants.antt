@@ -1,0 +1,12 @@
+use Rattle.std.proofs.Common.{◌≡◌, ℕ, false, sym, ap, ◌∙◌, arith, rules}
+use borrow.Author.Tests.{not-true, not-false}
+use Rattle.order.specs.Buffer.{ends_below}
+use Rattle.entries.specs.Merge.{Limit}
+use Rattle.entries.specs.MergeLaws.{ends-not→, limit-turns}
+use Rattle.entries.proofs.merge.seat_of.Given as goal
+
+abbrev pub invariant-loop-i : goal.invariant-loop-i
+invariant-loop-i l = Limit l.starts l.n l.entries l.end l.key l.i
+
+abbrev pub decreases-loop-i : goal.decreases-loop-i
+decreases-loop-i l = l.i

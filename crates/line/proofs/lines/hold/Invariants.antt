@@ -1,0 +1,12 @@
+use Prim.Native.Nat.{◌-◌}
+use native.Mathlib.Omega.{arith}
+use lib.ListN.{length}
+use Rattle.line.specs.LineLaws.{Holding, hold-begins, hold-turns, hold-ends, hold-full}
+use borrow.Author.Rules.{rules}
+use Rattle.line.proofs.lines.hold.Given as goal
+
+abbrev pub invariant-loop-i : goal.invariant-loop-i
+invariant-loop-i l = Holding l.part l.initial.held l.held l.n l.m l.i
+
+abbrev pub decreases-loop-i : goal.decreases-loop-i
+decreases-loop-i l = length l.part - l.i

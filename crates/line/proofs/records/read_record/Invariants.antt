@@ -1,0 +1,12 @@
+use Prim.Native.Nat.{◌-◌, ◌<◌}
+use mathlib.Core.Path.{sym, ◌∙◌}
+use native.Mathlib.Omega.{arith}
+use Rattle.line.specs.RecordLaws.{Gets, gets-begin, gets-few, gets-most, gets-found, gets-missing, gets-wrong, gets-small, gets-turn, gets_more, gets-end}
+use borrow.Author.Rules.{rules}
+use Rattle.line.proofs.records.read_record.Given as goal
+
+abbrev pub invariant-loop-i : goal.invariant-loop-i
+invariant-loop-i l = Gets l.letter l.count l.bases l.line l.ends l.v l.at l.i
+
+abbrev pub decreases-loop-i : goal.decreases-loop-i
+decreases-loop-i l = l.count - l.i

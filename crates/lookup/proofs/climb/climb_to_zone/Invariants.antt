@@ -1,0 +1,11 @@
+use Prim.Native.Nat.{suc, ◌-◌}
+use native.Mathlib.Omega.{arith}
+use Rattle.lookup.specs.ClimbLaws.{Climbing, climb-begins, climb-start, climb-turns, climb-found, climb-ended}
+use borrow.Author.Rules.{rules}
+use Rattle.lookup.proofs.climb.climb_to_zone.Given as goal
+
+abbrev pub invariant-loop-s : goal.invariant-loop-s
+invariant-loop-s l = Climbing l.s l.x l.y l.starts l.place l.looked
+
+abbrev pub decreases-loop-s : goal.decreases-loop-s
+decreases-loop-s l = suc l.s.k - l.looked

@@ -1,0 +1,12 @@
+use Prim.Native.Nat.{◌-◌}
+use native.Mathlib.Omega.{arith}
+use lib.ListN.{length}
+use Rattle.print.specs.TextLaws.{Follows, puts-room, follow-begins, follow-turns, follow-ends}
+use borrow.Author.Rules.{rules}
+use Rattle.print.proofs.answers.put_others.Given as goal
+
+abbrev pub invariant-loop-i : goal.invariant-loop-i
+invariant-loop-i l = Follows l.initial.out l.out l.at l.next l.list l.i
+
+abbrev pub decreases-loop-i : goal.decreases-loop-i
+decreases-loop-i l = length l.list - l.i

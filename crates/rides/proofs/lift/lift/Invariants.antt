@@ -1,0 +1,12 @@
+use Prim.Native.Nat.{◌+◌, ◌-◌, ◌<◌, ◌≤◌}
+use lib.ListN.{get_or}
+use native.Mathlib.Omega.{arith}
+use Rattle.rides.specs.LiftLaws.{Lifting, lift-begins, lift-stops, lift-drops, lift-none, lift-takes, lift-ends}
+use borrow.Author.Rules.{rules}
+use Rattle.rides.proofs.lift.lift.Given as goal
+
+abbrev pub invariant-loop-j : goal.invariant-loop-j
+invariant-loop-j l = Lifting l.starts l.n l.gone l.come l.initial.entries l.entries l.from l.end-2 l.m l.i-2 l.j-2 l.end l.i l.j
+
+abbrev pub decreases-loop-j : goal.decreases-loop-j
+decreases-loop-j l = l.i + l.j

@@ -1,0 +1,13 @@
+use Prim.Native.Nat.{◌+◌, ◌-◌, ◌<◌}
+use mathlib.Core.Path.{◌≡◌}
+use mathlib.Core.Bool.{true}
+use native.Mathlib.Omega.{arith}
+use Rattle.rides.specs.PartLaws.{Parting, part-begins, part-first, part-second, part-both, part-ends}
+use borrow.Author.Rules.{rules}
+use Rattle.rides.proofs.part.part_keys.Given as goal
+
+abbrev pub invariant-loop-i : goal.invariant-loop-i
+invariant-loop-i l = Parting l.initial.keys l.keys l.n l.m l.i l.j l.gone l.come
+
+abbrev pub decreases-loop-i : goal.decreases-loop-i
+decreases-loop-i l = l.n + l.m - (l.i + l.j)

@@ -1,0 +1,12 @@
+use Prim.Native.Nat.{◌-◌}
+use native.Mathlib.Omega.{arith}
+use Rattle.tables.specs.Slots.{car_between}
+use Rattle.rosters.specs.InsideLaws.{Marking, mark-begins, mark-turns, mark-ends}
+use borrow.Author.Rules.{rules}
+use Rattle.rosters.proofs.inside.mark_cars.Given as goal
+
+abbrev pub invariant-loop-c : goal.invariant-loop-c
+invariant-loop-c l = Marking (car_between l.cars l.spots l.columns l.rows) l.initial.row l.row l.inside l.c
+
+abbrev pub decreases-loop-c : goal.decreases-loop-c
+decreases-loop-c l = l.many - l.c

@@ -1,0 +1,13 @@
+use Prim.Native.Nat.{◌-◌}
+use native.Mathlib.Omega.{arith}
+use Rattle.order.specs.BufferLaws.{wrote-length}
+use Rattle.tables.specs.Slots.{car_between}
+use Rattle.rosters.specs.RiddenLaws.{Riding, ride-begins, ride-turns, ride-ends}
+use borrow.Author.Rules.{rules}
+use Rattle.rosters.proofs.ride.ride_cars.Given as goal
+
+abbrev pub invariant-loop-c : goal.invariant-loop-c
+invariant-loop-c l = Riding (car_between l.cars l.spots l.columns l.rows) l.initial.row l.row l.initial.entered l.entered l.initial.left l.left l.moved.entered l.moved.left l.c
+
+abbrev pub decreases-loop-c : goal.decreases-loop-c
+decreases-loop-c l = l.many - l.c

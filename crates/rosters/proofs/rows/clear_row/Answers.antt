@@ -1,0 +1,7 @@
+-- `clear_row` sets a zone's row to 0: the part lent is the row.
+use Rattle.rosters.specs.RosterLaws.{row-filled}
+use borrow.Author.Rules.{rules}
+use Rattle.rosters.proofs.rows.clear_row.Goals as goal
+
+pub returns : goal.returns
+returns c = row-filled c.requires _ c.fill_bytes.ensures

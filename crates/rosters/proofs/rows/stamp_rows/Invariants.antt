@@ -1,0 +1,11 @@
+use Prim.Native.Nat.{◌-◌}
+use lib.ListN.{length}
+use Rattle.rosters.specs.RosterLaws.{Stamping, stamp-begins, stamp-turns, stamp-ends}
+use borrow.Author.Rules.{rules}
+use Rattle.rosters.proofs.rows.stamp_rows.Given as goal
+
+abbrev pub invariant-loop-i : goal.invariant-loop-i
+invariant-loop-i l = Stamping l.initial.rosters l.zones l.many l.c l.v l.rosters l.i
+
+abbrev pub decreases-loop-i : goal.decreases-loop-i
+decreases-loop-i l = length l.zones - l.i

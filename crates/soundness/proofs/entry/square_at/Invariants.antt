@@ -1,0 +1,11 @@
+use Prim.Native.Nat.{◌-◌}
+use Rattle.squares.specs.ShapeLaws.{blocks-small}
+use Rattle.soundness.specs.EntryLaws.{Walked, walk_begins, walk-turns, walk-found, walk_ends}
+use borrow.Author.Rules.{rules}
+use Rattle.soundness.proofs.entry.square_at.Given as goal
+
+abbrev pub invariant-loop-level : goal.invariant-loop-level
+invariant-loop-level l = Walked l.s l.p l.level l.number l.count
+
+abbrev pub decreases-loop-level : goal.decreases-loop-level
+decreases-loop-level l = l.s.k - l.level

@@ -1,0 +1,14 @@
+-- `cut_sizes`: the loop has added up the entries of the zones passed.
+use Prim.Native.Nat.{◌-◌}
+use Rattle.soundness.specs.ZoneLaws.{Summed, summed-none, summed-more, summed-end}
+use borrow.Author.Rules.{rules}
+use Rattle.soundness.proofs.lists.cut_sizes.Goals as goal
+
+pub loop-z-init : goal.loop-z-init
+loop-z-init c = summed-none _ _ _
+
+pub loop-z-preserved : goal.loop-z-preserved
+loop-z-preserved c = summed-more _ _ _ _ _ _ c.loop-z.invariant c.loop-z-test.true c.cut_size-n.ensures
+
+pub returns : goal.returns
+returns c = summed-end _ _ _ _ _ c.loop-z.invariant c.loop-z-test.false

@@ -1,0 +1,10 @@
+use Prim.Native.Nat.{◌-◌}
+use Rattle.soundness.specs.ZoneLaws.{Summed, summed-none, summed-more, summed-end}
+use borrow.Author.Rules.{rules}
+use Rattle.soundness.proofs.lists.cut_sizes.Given as goal
+
+abbrev pub invariant-loop-z : goal.invariant-loop-z
+invariant-loop-z l = Summed l.s l.zones l.Z l.n l.z
+
+abbrev pub decreases-loop-z : goal.decreases-loop-z
+decreases-loop-z l = l.Z - l.z

@@ -1,0 +1,19 @@
+-- `bytes_clear`: the bytes passed are asked, one with the other.
+use Prim.Native.Nat.{◌-◌}
+use mathlib.Core.Bool.{false}
+use mathlib.Core.Path.{refl}
+use lib.ListN.{length}
+use Rattle.soundness.specs.Tests.{says_at, says}
+use Rattle.soundness.specs.EveryLaws.{Asked, asked-none, asked-more, asked-end}
+use borrow.Author.Rules.{rules}
+use Rattle.soundness.proofs.roster.bytes_clear.Goals as goal
+
+pub loop-c-init : goal.loop-c-init
+loop-c-init c = asked-none _ _
+
+pub loop-c-preserved : goal.loop-c-preserved
+loop-c-preserved c = asked-more _ _ _ _ c.loop-c.invariant c.loop-c-test.true _ refl
+
+pub returns : goal.returns
+unfolding says
+returns c = asked-end _ _ _ _ c.loop-c.invariant c.loop-c-test.false

@@ -1,0 +1,24 @@
+-- `car_fits`: a car that is not placed passes, and of one that is placed the team is asked, then the position.
+use mathlib.Core.Path.{◌≡◌, ap, sym, ◌∙◌}
+use native.Mathlib.Omega.{arith}
+use Rattle.position.specs.Spots.{spot_on}
+use Rattle.tables.specs.Tables.{spot_in}
+use Rattle.soundness.specs.CarLaws.{car-away, car-teamless, car-off, car-on}
+use borrow.Author.Rules.{rules}
+use Rattle.soundness.proofs.sweep.car_fits.Goals as goal
+
+pub returns-then-car-eq0 : goal.returns-then-car-eq0
+returns-then-car-eq0 c = car-away _ _ _ _ c.if-car-eq0.true
+
+pub returns-then-car : goal.returns-then-car
+returns-then-car c = car-teamless _ _ _ _ (omega arith)
+
+pub returns-in_default : goal.returns-in_default
+returns-in_default c =
+    let spot : let a = c.args in spot_on a.s (spot_in a.spots.now a.c) ≡ c.locate.result = ap (spot_on _) (sym c.spot_in.ensures) ∙ sym c.locate.ensures in
+    car-off _ _ _ _ c.requires.parked.shape c.if-car-eq0.false (omega arith) (spot ∙ c.in_default.is)
+
+pub returns : goal.returns
+returns c =
+    let spot : let a = c.args in spot_on a.s (spot_in a.spots.now a.c) ≡ c.locate.result = ap (spot_on _) (sym c.spot_in.ensures) ∙ sym c.locate.ensures in
+    car-on _ _ _ _ c.requires.parked.shape c.if-car-eq0.false (omega arith) _ _ (spot ∙ c.in-Cell.is)

@@ -1,0 +1,14 @@
+use Prim.Native.Nat.{◌-◌}
+use mathlib.Core.Path.{sym, ◌∙◌}
+use lib.ListN.{length}
+use borrow.Author.Tests.{not-true, not-false}
+use Rattle.soundness.specs.Tests.{tally_right}
+use Rattle.soundness.specs.EveryLaws.{Passed, passed_none, passed-more, passed-end, passed-stop}
+use borrow.Author.Rules.{rules}
+use Rattle.soundness.proofs.tally.tallies_right.Given as goal
+
+abbrev pub invariant-loop-z : goal.invariant-loop-z
+invariant-loop-z l = Passed (tally_right l.cars l.rosters l.tallies (length l.cars)) l.Z l.z
+
+abbrev pub decreases-loop-z : goal.decreases-loop-z
+decreases-loop-z l = l.Z - l.z

@@ -1,0 +1,10 @@
+use Rattle.std.proofs.Common.{◌≡◌, ◌-◌, length, take, arith, length-take-le, rules}
+use Rattle.starts.specs.Shift.{steps}
+use Rattle.starts.specs.ShiftLaws.{Moving, move-begins, move-turns, move-ends, key-there, steps-more}
+use Rattle.starts.proofs.shift.move_starts.Given as goal
+
+abbrev pub invariant-loop-j : goal.invariant-loop-j
+invariant-loop-j l = Moving (steps l.step) (take l.n l.initial.starts) l.initial.starts l.starts l.n l.p l.j × (l.by ≡ steps l.step l.j)
+
+abbrev pub decreases-loop-j : goal.decreases-loop-j
+decreases-loop-j l = l.n - l.j

@@ -1,0 +1,10 @@
+use Rattle.std.proofs.Common.{◌-◌, arith, rules}
+use Rattle.starts.specs.Shift.{Shifting}
+use Rattle.starts.specs.ShiftLaws.{shift_none, shift-still, shift-begins, shift-turns}
+use Rattle.starts.proofs.shift.shift_to.Given as goal
+
+abbrev pub invariant-loop-q : goal.invariant-loop-q
+invariant-loop-q l = Shifting l.initial.list l.list l.p l.end l.v l.q
+
+abbrev pub decreases-loop-q : goal.decreases-loop-q
+decreases-loop-q l = l.end - l.q

@@ -1,0 +1,9 @@
+use Rattle.std.proofs.Common.{◌≡◌, ◌-◌, ◌≤◌, ◌++◌, length, drop, replicate, refl, arith, rules}
+use Rattle.tables.specs.RowLaws.{fill-turn, fill_done}
+use Rattle.tables.proofs.fill.fill_words.Given as goal
+
+abbrev pub invariant-loop-i : goal.invariant-loop-i
+invariant-loop-i l = (l.i ≤ length l.initial.list) × ((l.list ≡ replicate l.i l.v ++ drop l.i l.initial.list) × (length l.list ≡ length l.initial.list))
+
+abbrev pub decreases-loop-i : goal.decreases-loop-i
+decreases-loop-i l = length l.initial.list - l.i

@@ -1,0 +1,10 @@
+-- `parent_of` takes a quarter of what is left past the blocks; of a block that is 0.
+use Rattle.squares.specs.ShapeLaws.{blocks-small}
+use Rattle.std.proofs.Common.{rules}
+use Rattle.tables.proofs.places.parent_of.Goals as goal
+
+pub overflow_mul-blocks : goal.overflow_mul-blocks
+overflow_mul-blocks c = let h = blocks-small _ c.requires in search rules
+
+pub overflow_cast-blocks : goal.overflow_cast-blocks
+overflow_cast-blocks c = let h = blocks-small _ c.requires in search rules

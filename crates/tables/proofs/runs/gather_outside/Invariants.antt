@@ -1,0 +1,11 @@
+use Rattle.std.proofs.Common.{◌+◌, ◌-◌, arith, rules}
+use Rattle.order.specs.BufferLaws.{front_length, front-within}
+use Rattle.tables.specs.Runs.{outside}
+use Rattle.tables.specs.GatherLaws.{Gathering, gather_none, gather-begins, gather-turns, gather-ends}
+use Rattle.tables.proofs.runs.gather_outside.Given as goal
+
+abbrev pub invariant-loop-i : goal.invariant-loop-i
+invariant-loop-i l = Gathering (outside l.zones l.x l.y) l.starts l.entries l.p l.initial.out l.n l.out l.i l.end l.count
+
+abbrev pub decreases-loop-i : goal.decreases-loop-i
+decreases-loop-i l = l.end - l.i

@@ -1,0 +1,9 @@
+use Rattle.std.proofs.Common.{ℕ, ◌-◌, replicate, ap, ◌∙◌, rules}
+use Rattle.tallies.specs.CountLaws.{Totals, totals-none, totals-more, totals-settled}
+use Rattle.tallies.proofs.counts.count_cars.Given as goal
+
+abbrev pub invariant-loop-c : goal.invariant-loop-c
+invariant-loop-c l = Totals l.cars l.rosters l.from l.many l.c l.row
+
+abbrev pub decreases-loop-c : goal.decreases-loop-c
+decreases-loop-c l = l.many - l.c

@@ -1,0 +1,9 @@
+use Rattle.std.proofs.Common.{◌-◌, length, rules}
+use Rattle.tallies.specs.CountLaws.{Moving, move-begins, move-turns, move-ends}
+use Rattle.tallies.proofs.counts.move_counts.Given as goal
+
+abbrev pub invariant-loop-i : goal.invariant-loop-i
+invariant-loop-i l = Moving l.initial.tallies l.zones l.g l.v l.tallies l.i
+
+abbrev pub decreases-loop-i : goal.decreases-loop-i
+decreases-loop-i l = length l.zones - l.i

@@ -1,0 +1,9 @@
+-- The answer to a leave is told, case by case.
+use borrow.Author.Rules.{rules}
+use Rattle.values.proofs.answers.tell_left.Goals as goal
+
+pub returns-in-Refused : goal.returns-in-Refused
+returns-in-Refused c = rw c.in-Refused.is c.tell_two.ensures
+
+pub returns-in-Done : goal.returns-in-Done
+returns-in-Done c = rw c.in-Done.is c.tell_two-in-Done.ensures

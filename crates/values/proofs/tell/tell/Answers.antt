@@ -1,0 +1,6 @@
+-- A value is capped and stored.
+use borrow.Author.Rules.{rules}
+use Rattle.values.proofs.tell.tell.Goals as goal
+
+pub returns : goal.returns
+returns c = rw (← c.cap.ensures) c.store.ensures
