@@ -1,7 +1,6 @@
 -- `field_end` finds nothing past the end of the line, and else the next tab or the end.
 use mathlib.Core.Path.{sym, ◌∙◌}
 use Rattle.line.specs.RecordLaws.{field-missing, field-there}
-use borrow.Author.Rules.{rules}
 use Rattle.line.proofs.fields.field_end.Goals as goal
 
 pub returns-then-line-at : goal.returns-then-line-at

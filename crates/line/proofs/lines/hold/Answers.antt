@@ -1,9 +1,6 @@
 -- `hold` has held i bytes of the part, and stops at 81.
-use Prim.Native.Nat.{◌-◌}
 use native.Mathlib.Omega.{arith}
-use lib.ListN.{length}
-use Rattle.line.specs.LineLaws.{Holding, hold-begins, hold-turns, hold-ends, hold-full}
-use borrow.Author.Rules.{rules}
+use Rattle.line.specs.LineLaws.{hold-begins, hold-turns, hold-ends, hold-full}
 use Rattle.line.proofs.lines.hold.Goals as goal
 
 pub loop-i-init : goal.loop-i-init

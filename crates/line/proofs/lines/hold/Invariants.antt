@@ -1,8 +1,6 @@
 use Prim.Native.Nat.{◌-◌}
-use native.Mathlib.Omega.{arith}
 use lib.ListN.{length}
-use Rattle.line.specs.LineLaws.{Holding, hold-begins, hold-turns, hold-ends, hold-full}
-use borrow.Author.Rules.{rules}
+use Rattle.line.specs.LineLaws.{Holding}
 use Rattle.line.proofs.lines.hold.Given as goal
 
 abbrev pub invariant-loop-i : goal.invariant-loop-i

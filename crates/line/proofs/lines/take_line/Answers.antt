@@ -1,6 +1,5 @@
 -- `take_line` holds what stands before the next feed, which is a line, or before the end of the piece, which is a part of one.
 use Rattle.line.specs.LineLaws.{takes-line, takes_part}
-use borrow.Author.Rules.{rules}
 use Rattle.line.proofs.lines.take_line.Goals as goal
 
 pub returns-then-end-piece : goal.returns-then-end-piece

@@ -2,7 +2,6 @@
 use mathlib.Core.Path.{sym}
 use native.Mathlib.Omega.{arith}
 use Rattle.line.specs.NumberLaws.{digit_low, digit-decimal, digit-between, digit-letter, digit-high}
-use borrow.Author.Rules.{rules}
 use Rattle.line.proofs.numbers.digit.Goals as goal
 
 pub returns-then-byte-lt48 : goal.returns-then-byte-lt48

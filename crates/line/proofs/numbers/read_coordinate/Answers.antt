@@ -1,7 +1,6 @@
 -- `read_coordinate` takes eight digits in base 16.
 use mathlib.Core.Path.{◌∙◌}
 use Rattle.line.specs.NumberLaws.{coordinate-wrong, coordinate-is}
-use borrow.Author.Rules.{rules}
 use Rattle.line.proofs.numbers.read_coordinate.Goals as goal
 
 pub returns-then-field-ne8 : goal.returns-then-field-ne8

@@ -2,7 +2,6 @@
 use mathlib.Core.Path.{sym, ◌∙◌}
 use native.Mathlib.Omega.{arith}
 use Rattle.line.specs.NumberLaws.{decimal-empty, decimal-long, decimal-zero, decimal-needless, decimal-wrong, decimal-large, decimal-is}
-use borrow.Author.Rules.{rules}
 use Rattle.line.proofs.numbers.read_decimal.Goals as goal
 
 pub returns-then-field-eq0 : goal.returns-then-field-eq0

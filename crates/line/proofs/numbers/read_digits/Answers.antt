@@ -1,9 +1,7 @@
 -- `read_digits` has read i digits, and the others give the same number from there.
-use Prim.Native.Nat.{◌+◌, ◌-◌, ◌*◌, ◌^◌, ◌<◌}
+use Prim.Native.Nat.{◌+◌, ◌*◌, ◌^◌, ◌<◌}
 use native.Mathlib.Omega.{arith}
-use lib.ListN.{length}
-use Rattle.line.specs.NumberLaws.{Reads, reads-begin, reads_fit, reads-turn, reads-stop, reads_end}
-use borrow.Author.Rules.{rules}
+use Rattle.line.specs.NumberLaws.{reads-begin, reads_fit, reads-turn, reads-stop, reads_end}
 use Rattle.line.proofs.numbers.read_digits.Goals as goal
 
 pub loop-i-init : goal.loop-i-init

@@ -1,8 +1,6 @@
-use Prim.Native.Nat.{◌+◌, ◌-◌, ◌*◌, ◌^◌, ◌<◌}
-use native.Mathlib.Omega.{arith}
+use Prim.Native.Nat.{◌-◌}
 use lib.ListN.{length}
-use Rattle.line.specs.NumberLaws.{Reads, reads-begin, reads_fit, reads-turn, reads-stop, reads_end}
-use borrow.Author.Rules.{rules}
+use Rattle.line.specs.NumberLaws.{Reads}
 use Rattle.line.proofs.numbers.read_digits.Given as goal
 
 abbrev pub invariant-loop-i : goal.invariant-loop-i

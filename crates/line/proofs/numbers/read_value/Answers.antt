@@ -1,7 +1,6 @@
 -- `read_value` goes by the base: 10 is a decimal, any other a coordinate.
 use mathlib.Core.Path.{◌∙◌}
 use borrow.Author.Tests.{eq-eqb, ne_eqb}
-use borrow.Author.Rules.{rules}
 use Rattle.line.proofs.numbers.read_value.Goals as goal
 
 pub returns-then-base-eq10 : goal.returns-then-base-eq10

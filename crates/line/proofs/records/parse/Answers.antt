@@ -2,7 +2,6 @@
 use mathlib.Core.Path.{◌∙◌}
 use native.Mathlib.Omega.{arith}
 use Rattle.line.specs.RecordLaws.{letter-there, ends-after, meaning-long, meaning-wrong, meaning-read}
-use borrow.Author.Rules.{rules}
 use Rattle.line.proofs.records.parse.Goals as goal
 
 pub returns-then-line-gt80 : goal.returns-then-line-gt80

@@ -1,9 +1,8 @@
 -- `read_record` has read i values, and the next field starts at `at`; a missing field, a wrong one or one too many ends it.
-use Prim.Native.Nat.{◌-◌, ◌<◌}
+use Prim.Native.Nat.{◌<◌}
 use mathlib.Core.Path.{sym, ◌∙◌}
 use native.Mathlib.Omega.{arith}
-use Rattle.line.specs.RecordLaws.{Gets, gets-begin, gets-few, gets-most, gets-found, gets-missing, gets-wrong, gets-small, gets-turn, gets_more, gets-end}
-use borrow.Author.Rules.{rules}
+use Rattle.line.specs.RecordLaws.{gets-begin, gets-few, gets-most, gets-found, gets-missing, gets-wrong, gets-small, gets-turn, gets_more, gets-end}
 use Rattle.line.proofs.records.read_record.Goals as goal
 
 pub loop-i-init : goal.loop-i-init

@@ -1,8 +1,5 @@
-use Prim.Native.Nat.{◌-◌, ◌<◌}
-use mathlib.Core.Path.{sym, ◌∙◌}
-use native.Mathlib.Omega.{arith}
-use Rattle.line.specs.RecordLaws.{Gets, gets-begin, gets-few, gets-most, gets-found, gets-missing, gets-wrong, gets-small, gets-turn, gets_more, gets-end}
-use borrow.Author.Rules.{rules}
+use Prim.Native.Nat.{◌-◌}
+use Rattle.line.specs.RecordLaws.{Gets}
 use Rattle.line.proofs.records.read_record.Given as goal
 
 abbrev pub invariant-loop-i : goal.invariant-loop-i

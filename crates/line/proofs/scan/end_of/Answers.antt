@@ -1,9 +1,6 @@
 -- `end_of` has met no mark before i.
-use Prim.Native.Nat.{◌-◌}
 use native.Mathlib.Omega.{arith}
-use lib.ListN.{length}
-use Rattle.line.specs.SplitLaws.{Scans, scan_begins, scan-turns, scan-stops, scan-ends}
-use borrow.Author.Rules.{rules}
+use Rattle.line.specs.SplitLaws.{scan_begins, scan-turns, scan-stops, scan-ends}
 use Rattle.line.proofs.scan.end_of.Goals as goal
 
 pub loop-i-init : goal.loop-i-init

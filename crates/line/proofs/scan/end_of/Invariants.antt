@@ -1,8 +1,6 @@
 use Prim.Native.Nat.{◌-◌}
-use native.Mathlib.Omega.{arith}
 use lib.ListN.{length}
-use Rattle.line.specs.SplitLaws.{Scans, scan_begins, scan-turns, scan-stops, scan-ends}
-use borrow.Author.Rules.{rules}
+use Rattle.line.specs.SplitLaws.{Scans}
 use Rattle.line.proofs.scan.end_of.Given as goal
 
 abbrev pub invariant-loop-i : goal.invariant-loop-i

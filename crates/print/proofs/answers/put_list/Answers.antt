@@ -1,7 +1,6 @@
 -- `put_list` puts a dash for an empty list, and else the first member and the others.
 use native.Mathlib.Omega.{arith}
 use Rattle.print.specs.TextLaws.{puts_none, puts-list}
-use borrow.Author.Rules.{rules}
 use Rattle.print.proofs.answers.put_list.Goals as goal
 
 pub returns-then-list-eq0 : goal.returns-then-list-eq0

@@ -1,7 +1,6 @@
 -- `put_members` puts a tab and then the list.
 use native.Mathlib.Omega.{arith}
 use Rattle.print.specs.TextLaws.{puts-more}
-use borrow.Author.Rules.{rules}
 use Rattle.print.proofs.answers.put_members.Goals as goal
 
 pub returns : goal.returns

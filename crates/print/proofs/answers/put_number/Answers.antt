@@ -1,6 +1,5 @@
 -- `put_number` puts a byte and then the number's digits.
 use Rattle.print.specs.TextLaws.{puts-more}
-use borrow.Author.Rules.{rules}
 use Rattle.print.proofs.answers.put_number.Goals as goal
 
 pub returns : goal.returns

@@ -1,9 +1,6 @@
 -- `put_others` has put i members, each after a comma.
-use Prim.Native.Nat.{◌-◌}
 use native.Mathlib.Omega.{arith}
-use lib.ListN.{length}
-use Rattle.print.specs.TextLaws.{Follows, puts-room, follow-begins, follow-turns, follow-ends}
-use borrow.Author.Rules.{rules}
+use Rattle.print.specs.TextLaws.{puts-room, follow-begins, follow-turns, follow-ends}
 use Rattle.print.proofs.answers.put_others.Goals as goal
 
 pub loop-i-init : goal.loop-i-init

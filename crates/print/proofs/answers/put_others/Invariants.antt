@@ -1,8 +1,6 @@
 use Prim.Native.Nat.{◌-◌}
-use native.Mathlib.Omega.{arith}
 use lib.ListN.{length}
-use Rattle.print.specs.TextLaws.{Follows, puts-room, follow-begins, follow-turns, follow-ends}
-use borrow.Author.Rules.{rules}
+use Rattle.print.specs.TextLaws.{Follows}
 use Rattle.print.proofs.answers.put_others.Given as goal
 
 abbrev pub invariant-loop-i : goal.invariant-loop-i

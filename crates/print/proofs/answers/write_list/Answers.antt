@@ -3,7 +3,6 @@ use mathlib.Core.List.{[], ◌∷◌}
 use native.Mathlib.Omega.{arith}
 use Rattle.print.specs.Text.{number, members}
 use Rattle.print.specs.TextLaws.{answer-more, answer-ends}
-use borrow.Author.Rules.{rules}
 use Rattle.print.proofs.answers.write_list.Goals as goal
 
 pub returns : goal.returns
