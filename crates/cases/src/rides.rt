@@ -7,6 +7,7 @@ use squares::Shape;
 
 // A ride, and whether the tables are sound then. Each list is shown with what stood in its buffer.
 pub fn ride_by(
+    rt: &impl Print,
     head: &[u32],
     zones: &mut [u32],
     cars: &[u32],
@@ -25,18 +26,20 @@ pub fn ride_by(
         head, zones, cars, spots, starts, entries, rosters, tallies, zone, columns, rows, entered,
         left,
     ) {
-        Ridden::Refused(n) => number(n as u64),
+        Ridden::Refused(n) => number(rt, n as u64),
         Ridden::Done(dropped, taken, came, gone) => {
-            number(0);
-            number(dropped as u64);
-            number(taken as u64);
-            number(came as u64);
-            number(gone as u64);
+            number(rt, 0);
+            number(rt, dropped as u64);
+            number(rt, taken as u64);
+            number(rt, came as u64);
+            number(rt, gone as u64);
         }
     }
-    say_sound(head, zones, cars, spots, starts, entries, rosters, tallies);
-    bracket(entered);
-    bracket(left);
+    say_sound(
+        rt, head, zones, cars, spots, starts, entries, rosters, tallies,
+    );
+    bracket(rt, entered);
+    bracket(rt, left);
 }
 
 fn step(n: u32) -> i32 {
@@ -48,6 +51,7 @@ fn step(n: u32) -> i32 {
 
 // A ride to the east and the north.
 pub fn ride(
+    rt: &impl Print,
     head: &[u32],
     zones: &mut [u32],
     cars: &[u32],
@@ -62,12 +66,13 @@ pub fn ride(
 ) {
     let mut entered = [7u32; 4];
     let mut left = [7u32; 4];
-    text(b"ride");
-    number(zone as u64);
-    number(columns as u64);
-    number(rows as u64);
-    text(b" ->");
+    text(rt, b"ride");
+    number(rt, zone as u64);
+    number(rt, columns as u64);
+    number(rt, rows as u64);
+    text(rt, b" ->");
     ride_by(
+        rt,
         head,
         zones,
         cars,
@@ -204,7 +209,7 @@ const SCRIPT: [u32; 114] = [
     0,
 ];
 
-pub fn ride_case(s: Shape) {
+pub fn ride_case(rt: &impl Print, s: Shape) {
     let mut head = [7u32; 6];
     let mut zones = [7u32; 12];
     let mut cars = [7u32; 4];
@@ -214,6 +219,7 @@ pub fn ride_case(s: Shape) {
     let mut rosters = [7u8; 12];
     let mut tallies = [7u32; 30];
     open(
+        rt,
         &mut head,
         &mut zones,
         &mut cars,
@@ -228,6 +234,7 @@ pub fn ride_case(s: Shape) {
         8,
     );
     lines(
+        rt,
         &head,
         &mut zones,
         &mut cars,

@@ -35,16 +35,16 @@ fn standing() -> Small {
     }
 }
 
-fn say(answer: SoundnessOf) {
+fn say(rt: &impl Print, answer: SoundnessOf) {
     match answer {
-        SoundnessOf::Refused(n) => number(n as u64),
-        SoundnessOf::Sound => text(b" 0 yes"),
-        SoundnessOf::Unsound => text(b" 0 no"),
+        SoundnessOf::Refused(n) => number(rt, n as u64),
+        SoundnessOf::Sound => text(rt, b" 0 yes"),
+        SoundnessOf::Unsound => text(rt, b" 0 no"),
     }
-    end();
+    end(rt);
 }
 
-fn soundness(t: Small) {
+fn soundness(rt: &impl Print, t: Small) {
     let head = t.head;
     let zones = t.zones;
     let cars = t.cars;
@@ -53,13 +53,16 @@ fn soundness(t: Small) {
     let entries = t.entries;
     let rosters = t.rosters;
     let tallies = t.tallies;
-    text(b" sound ->");
-    say(readings::soundness_of_town(
-        &head, &zones, &cars, &spots, &starts, &entries, &rosters, &tallies,
-    ));
+    text(rt, b" sound ->");
+    say(
+        rt,
+        readings::soundness_of_town(
+            &head, &zones, &cars, &spots, &starts, &entries, &rosters, &tallies,
+        ),
+    );
 }
 
-fn opened() {
+fn opened(rt: &impl Print) {
     let mut head = [7u32; 6];
     let mut zones = [7u32; 8];
     let mut cars = [7u32; 2];
@@ -68,11 +71,14 @@ fn opened() {
     let mut entries = [7u32; 4];
     let mut rosters = [7u8; 4];
     let mut tallies = [7u32; 20];
-    text(b"garbage: sound ->");
-    say(readings::soundness_of_town(
-        &head, &zones, &cars, &spots, &starts, &entries, &rosters, &tallies,
-    ));
-    text(b"open 1 1 1: 2 2 4 ->");
+    text(rt, b"garbage: sound ->");
+    say(
+        rt,
+        readings::soundness_of_town(
+            &head, &zones, &cars, &spots, &starts, &entries, &rosters, &tallies,
+        ),
+    );
+    text(rt, b"open 1 1 1: 2 2 4 ->");
     match zones::open_town(
         &mut head,
         &mut zones,
@@ -89,17 +95,20 @@ fn opened() {
         2,
         4,
     ) {
-        Opened::Refused(n) => number(n as u64),
-        Opened::Done => number(0),
+        Opened::Refused(n) => number(rt, n as u64),
+        Opened::Done => number(rt, 0),
     }
-    end();
-    text(b"opened: sound ->");
-    say(readings::soundness_of_town(
-        &head, &zones, &cars, &spots, &starts, &entries, &rosters, &tallies,
-    ));
+    end(rt);
+    text(rt, b"opened: sound ->");
+    say(
+        rt,
+        readings::soundness_of_town(
+            &head, &zones, &cars, &spots, &starts, &entries, &rosters, &tallies,
+        ),
+    );
 }
 
-fn find(p: Position, out: &mut [u32]) {
+fn find(rt: &impl Print, p: Position, out: &mut [u32]) {
     let t = standing();
     let head = t.head;
     let zones = t.zones;
@@ -112,29 +121,29 @@ fn find(p: Position, out: &mut [u32]) {
     match readings::search_zones(
         &head, &zones, &cars, &spots, &starts, &entries, &rosters, &tallies, p, out,
     ) {
-        Searched::Refused(n) => number(n as u64),
+        Searched::Refused(n) => number(rt, n as u64),
         Searched::Found(squares, zones) => {
-            number(0);
-            number(squares as u64);
-            number(zones as u64);
+            number(rt, 0);
+            number(rt, squares as u64);
+            number(rt, zones as u64);
         }
     }
 }
 
-fn search(x: u32, y: u32, out: &mut [u32]) {
-    text(b"search");
-    number(x as u64);
-    number(y as u64);
-    text(b" ->");
+fn search(rt: &impl Print, x: u32, y: u32, out: &mut [u32]) {
+    text(rt, b"search");
+    number(rt, x as u64);
+    number(rt, y as u64);
+    text(rt, b" ->");
     let p = Position {
         x: float_of(x),
         y: float_of(y),
     };
-    find(p, out);
-    bracket(out);
+    find(rt, p, out);
+    bracket(rt, out);
 }
 
-fn scoring(x: u32, y: u32) {
+fn scoring(rt: &impl Print, x: u32, y: u32) {
     let t = standing();
     let head = t.head;
     let zones = t.zones;
@@ -144,20 +153,23 @@ fn scoring(x: u32, y: u32) {
     let entries = t.entries;
     let rosters = t.rosters;
     let tallies = t.tallies;
-    text(b"scoring");
-    number(x as u64);
-    number(y as u64);
-    text(b" ->");
+    text(rt, b"scoring");
+    number(rt, x as u64);
+    number(rt, y as u64);
+    text(rt, b" ->");
     let p = Position {
         x: float_of(x),
         y: float_of(y),
     };
-    say_scoring(readings::scoring_of_spot(
-        &head, &zones, &cars, &spots, &starts, &entries, &rosters, &tallies, p,
-    ));
+    say_scoring(
+        rt,
+        readings::scoring_of_spot(
+            &head, &zones, &cars, &spots, &starts, &entries, &rosters, &tallies, p,
+        ),
+    );
 }
 
-fn roster(zone: u32, out: &mut [u32]) {
+fn roster(rt: &impl Print, zone: u32, out: &mut [u32]) {
     let t = standing();
     let head = t.head;
     let zones = t.zones;
@@ -167,22 +179,22 @@ fn roster(zone: u32, out: &mut [u32]) {
     let entries = t.entries;
     let rosters = t.rosters;
     let tallies = t.tallies;
-    text(b"roster");
-    number(zone as u64);
-    text(b" ->");
+    text(rt, b"roster");
+    number(rt, zone as u64);
+    text(rt, b" ->");
     match readings::roster_of_zone(
         &head, &zones, &cars, &spots, &starts, &entries, &rosters, &tallies, zone, out,
     ) {
-        RosterOf::Refused(n) => number(n as u64),
+        RosterOf::Refused(n) => number(rt, n as u64),
         RosterOf::Cars(cars) => {
-            number(0);
-            number(cars as u64);
+            number(rt, 0);
+            number(rt, cars as u64);
         }
     }
-    bracket(out);
+    bracket(rt, out);
 }
 
-fn count(zone: u32) {
+fn count(rt: &impl Print, zone: u32) {
     let t = standing();
     let head = t.head;
     let zones = t.zones;
@@ -192,22 +204,22 @@ fn count(zone: u32) {
     let entries = t.entries;
     let rosters = t.rosters;
     let tallies = t.tallies;
-    text(b"count");
-    number(zone as u64);
-    text(b" ->");
+    text(rt, b"count");
+    number(rt, zone as u64);
+    text(rt, b" ->");
     match readings::count_of_zone(
         &head, &zones, &cars, &spots, &starts, &entries, &rosters, &tallies, zone,
     ) {
-        CountOf::Refused(n) => number(n as u64),
+        CountOf::Refused(n) => number(rt, n as u64),
         CountOf::Cars(cars) => {
-            number(0);
-            number(cars as u64);
+            number(rt, 0);
+            number(rt, cars as u64);
         }
     }
-    end();
+    end(rt);
 }
 
-fn holder(zone: u32) {
+fn holder(rt: &impl Print, zone: u32) {
     let t = standing();
     let head = t.head;
     let zones = t.zones;
@@ -217,15 +229,18 @@ fn holder(zone: u32) {
     let entries = t.entries;
     let rosters = t.rosters;
     let tallies = t.tallies;
-    text(b"holder");
-    number(zone as u64);
-    text(b" ->");
-    say_holder(readings::holder_of_zone(
-        &head, &zones, &cars, &spots, &starts, &entries, &rosters, &tallies, zone,
-    ));
+    text(rt, b"holder");
+    number(rt, zone as u64);
+    text(rt, b" ->");
+    say_holder(
+        rt,
+        readings::holder_of_zone(
+            &head, &zones, &cars, &spots, &starts, &entries, &rosters, &tallies, zone,
+        ),
+    );
 }
 
-fn where_car(car: u32) {
+fn where_car(rt: &impl Print, car: u32) {
     let t = standing();
     let head = t.head;
     let zones = t.zones;
@@ -235,148 +250,148 @@ fn where_car(car: u32) {
     let entries = t.entries;
     let rosters = t.rosters;
     let tallies = t.tallies;
-    text(b"where");
-    number(car as u64);
-    text(b" ->");
+    text(rt, b"where");
+    number(rt, car as u64);
+    text(rt, b" ->");
     match readings::where_is_car(
         &head, &zones, &cars, &spots, &starts, &entries, &rosters, &tallies, car,
     ) {
-        WhereIs::Refused(n) => number(n as u64),
+        WhereIs::Refused(n) => number(rt, n as u64),
         WhereIs::At(p) => match position::locate(Shape { k: 1, P: 1, Q: 1 }, p) {
-            Spot::Off => text(b" 0 -"),
+            Spot::Off => text(rt, b" 0 -"),
             Spot::Cell(column, row) => {
-                number(0);
-                number(column as u64);
-                number(row as u64);
+                number(rt, 0);
+                number(rt, column as u64);
+                number(rt, row as u64);
             }
         },
     }
-    end();
+    end(rt);
 }
 
-fn reads() {
+fn reads(rt: &impl Print) {
     let mut out = [7u32; 3];
-    search(0x3FC0_0000, 0x3F00_0000, &mut out);
-    search(0x3F00_0000, 0x0000_0000, &mut out);
-    search(0x3F00_0000, 0x3F80_0000, &mut out);
-    search(0x4000_0000, 0x0000_0000, &mut out);
-    search(0x4000_0001, 0x0000_0000, &mut out);
-    search(0x0000_0000, 0x4000_0000, &mut out);
-    search(0x8000_0000, 0x0000_0000, &mut out);
-    scoring(0x3FC0_0000, 0x3F00_0000);
-    scoring(0x3F00_0000, 0x0000_0000);
-    scoring(0x3F00_0000, 0x3F80_0000);
-    scoring(0x4000_0000, 0x0000_0000);
-    scoring(0x4000_0001, 0x0000_0000);
-    scoring(0x0000_0000, 0x4000_0000);
-    scoring(0x8000_0000, 0x0000_0000);
-    roster(1, &mut out);
-    roster(0, &mut out);
-    roster(2, &mut out);
+    search(rt, 0x3FC0_0000, 0x3F00_0000, &mut out);
+    search(rt, 0x3F00_0000, 0x0000_0000, &mut out);
+    search(rt, 0x3F00_0000, 0x3F80_0000, &mut out);
+    search(rt, 0x4000_0000, 0x0000_0000, &mut out);
+    search(rt, 0x4000_0001, 0x0000_0000, &mut out);
+    search(rt, 0x0000_0000, 0x4000_0000, &mut out);
+    search(rt, 0x8000_0000, 0x0000_0000, &mut out);
+    scoring(rt, 0x3FC0_0000, 0x3F00_0000);
+    scoring(rt, 0x3F00_0000, 0x0000_0000);
+    scoring(rt, 0x3F00_0000, 0x3F80_0000);
+    scoring(rt, 0x4000_0000, 0x0000_0000);
+    scoring(rt, 0x4000_0001, 0x0000_0000);
+    scoring(rt, 0x0000_0000, 0x4000_0000);
+    scoring(rt, 0x8000_0000, 0x0000_0000);
+    roster(rt, 1, &mut out);
+    roster(rt, 0, &mut out);
+    roster(rt, 2, &mut out);
     let mut short = [7u32; 1];
-    search(0x3F00_0000, 0x0000_0000, &mut short);
-    roster(1, &mut short);
-    count(1);
-    count(0);
-    count(2);
-    holder(1);
-    holder(0);
-    holder(2);
-    where_car(0);
-    where_car(1);
-    where_car(2);
+    search(rt, 0x3F00_0000, 0x0000_0000, &mut short);
+    roster(rt, 1, &mut short);
+    count(rt, 1);
+    count(rt, 0);
+    count(rt, 2);
+    holder(rt, 1);
+    holder(rt, 0);
+    holder(rt, 2);
+    where_car(rt, 0);
+    where_car(rt, 1);
+    where_car(rt, 2);
 }
 
 // Records that mean nothing do not matter; every other number does.
-fn records() {
+fn records(rt: &impl Print) {
     let mut idle = standing();
     idle.zones[0] = 9;
     idle.zones[3] = 9;
     idle.spots[2] = float_of(0x7FC0_0000);
-    text(b"idle records");
-    soundness(idle);
+    text(rt, b"idle records");
+    soundness(rt, idle);
     let mut beyond = standing();
     beyond.zones[4] = 4294967295;
-    text(b"rectangle beyond the town");
-    soundness(beyond);
+    text(rt, b"rectangle beyond the town");
+    soundness(rt, beyond);
     let mut lost = standing();
     lost.spots[0] = float_of(0x7FC0_0000);
-    text(b"position not on the map");
-    soundness(lost);
+    text(rt, b"position not on the map");
+    soundness(rt, lost);
     let mut pressed = standing();
     pressed.spots[0] = float_of(0x4000_0000);
-    text(b"car at the east wall");
-    soundness(pressed);
+    text(rt, b"car at the east wall");
+    soundness(rt, pressed);
     let mut past = standing();
     past.spots[0] = float_of(0x4000_0001);
-    text(b"car past the east wall");
-    soundness(past);
+    text(rt, b"car past the east wall");
+    soundness(rt, past);
     let mut moved = standing();
     moved.spots[1] = float_of(0x3FC0_0000);
-    text(b"car elsewhere");
-    soundness(moved);
+    text(rt, b"car elsewhere");
+    soundness(rt, moved);
     let mut changed = standing();
     changed.cars[0] = 4;
-    text(b"car in another team");
-    soundness(changed);
+    text(rt, b"car in another team");
+    soundness(rt, changed);
     let mut eighth = standing();
     eighth.cars[0] = 9;
-    text(b"car in a team above 7");
-    soundness(eighth);
+    text(rt, b"car in a team above 7");
+    soundness(rt, eighth);
     let mut capacity = standing();
     capacity.head[5] = 5;
-    text(b"capacity and length apart");
-    soundness(capacity);
+    text(rt, b"capacity and length apart");
+    soundness(rt, capacity);
 }
 
-fn derived() {
+fn derived(rt: &impl Print) {
     let mut swapped = standing();
     swapped.entries[0] = 513;
     swapped.entries[1] = 257;
-    text(b"keys out of order");
-    soundness(swapped);
+    text(rt, b"keys out of order");
+    soundness(rt, swapped);
     let mut twice = standing();
     twice.entries[2] = 513;
     twice.starts[5] = 3;
-    text(b"an entry twice");
-    soundness(twice);
+    text(rt, b"an entry twice");
+    soundness(rt, twice);
     let mut unmarked = standing();
     unmarked.entries[3] = 0;
-    text(b"a free mark too few");
-    soundness(unmarked);
+    text(rt, b"a free mark too few");
+    soundness(rt, unmarked);
     let mut overlapping = standing();
     overlapping.starts[2] = 0;
-    text(b"runs that overlap");
-    soundness(overlapping);
+    text(rt, b"runs that overlap");
+    soundness(rt, overlapping);
     let mut high = standing();
     high.starts[5] = 4294967295;
-    text(b"a start past the end");
-    soundness(high);
+    text(rt, b"a start past the end");
+    soundness(rt, high);
     let mut byte = standing();
     byte.rosters[2] = 2;
-    text(b"a roster byte of 2");
-    soundness(byte);
+    text(rt, b"a roster byte of 2");
+    soundness(rt, byte);
     let mut missing = standing();
     missing.rosters[2] = 0;
-    text(b"a car missing");
-    soundness(missing);
+    text(rt, b"a car missing");
+    soundness(rt, missing);
     let mut counted = standing();
     counted.tallies[10] = 2;
-    text(b"a car counted twice");
-    soundness(counted);
+    text(rt, b"a car counted twice");
+    soundness(rt, counted);
     let mut down = standing();
     down.tallies[0] = 1;
-    text(b"a count where no zone stands");
-    soundness(down);
+    text(rt, b"a count where no zone stands");
+    soundness(rt, down);
     let mut other = standing();
     other.tallies[13] = 0;
     other.tallies[14] = 1;
-    text(b"a car counted for another team");
-    soundness(other);
+    text(rt, b"a car counted for another team");
+    soundness(rt, other);
     let mut nobody = standing();
     nobody.tallies[19] = 0;
-    text(b"a zone held by nobody");
-    soundness(nobody);
+    text(rt, b"a zone held by nobody");
+    soundness(rt, nobody);
 }
 
 // The same zone a row further north, where no car is.
@@ -397,6 +412,7 @@ fn north() -> Small {
 
 // A ride of a town, with what is said of it first.
 fn ride_into(
+    rt: &impl Print,
     said: &[u8],
     t: Small,
     zone: u32,
@@ -413,8 +429,9 @@ fn ride_into(
     let mut entries = t.entries;
     let mut rosters = t.rosters;
     let mut tallies = t.tallies;
-    text(said);
+    text(rt, said);
     ride_by(
+        rt,
         &head,
         &mut zones,
         &cars,
@@ -432,36 +449,51 @@ fn ride_into(
 }
 
 // The same with buffers of 7s that have room.
-fn ride(said: &[u8], t: Small, zone: u32, columns: i32, rows: i32) {
+fn ride(rt: &impl Print, said: &[u8], t: Small, zone: u32, columns: i32, rows: i32) {
     let mut entered = [7u32; 3];
     let mut left = [7u32; 3];
-    ride_into(said, t, zone, columns, rows, &mut entered, &mut left);
+    ride_into(rt, said, t, zone, columns, rows, &mut entered, &mut left);
 }
 
 // Off each edge by one, and by as much as there is.
-fn off_edges() {
-    ride(b"ride 1 -1 0 ->", standing(), 1, -1, 0);
-    ride(b"ride 1 1 0 ->", standing(), 1, 1, 0);
-    ride(b"ride 1 0 -1 ->", standing(), 1, 0, -1);
-    ride(b"ride 1 0 2 ->", standing(), 1, 0, 2);
-    ride(b"ride 1 -2147483648 0 ->", standing(), 1, -2147483648, 0);
-    ride(b"ride 1 2147483647 0 ->", standing(), 1, 2147483647, 0);
-    ride(b"ride 1 0 -2147483648 ->", standing(), 1, 0, -2147483648);
-    ride(b"ride 1 0 2147483647 ->", standing(), 1, 0, 2147483647);
+fn off_edges(rt: &impl Print) {
+    ride(rt, b"ride 1 -1 0 ->", standing(), 1, -1, 0);
+    ride(rt, b"ride 1 1 0 ->", standing(), 1, 1, 0);
+    ride(rt, b"ride 1 0 -1 ->", standing(), 1, 0, -1);
+    ride(rt, b"ride 1 0 2 ->", standing(), 1, 0, 2);
+    ride(
+        rt,
+        b"ride 1 -2147483648 0 ->",
+        standing(),
+        1,
+        -2147483648,
+        0,
+    );
+    ride(rt, b"ride 1 2147483647 0 ->", standing(), 1, 2147483647, 0);
+    ride(
+        rt,
+        b"ride 1 0 -2147483648 ->",
+        standing(),
+        1,
+        0,
+        -2147483648,
+    );
+    ride(rt, b"ride 1 0 2147483647 ->", standing(), 1, 0, 2147483647);
 }
 
 // The other refusals but 12, each before what would refuse it later, each buffer one short; then by nothing, to the north, and
 // from there to the south.
-fn rides() {
+fn rides(rt: &impl Print) {
     let mut capacity = standing();
     capacity.head[5] = 5;
-    text(b"capacity and length apart: ");
-    ride(b"ride 2 0 0 ->", capacity, 2, 0, 0);
-    ride(b"ride 2 -1 0 ->", standing(), 2, -1, 0);
-    ride(b"ride 0 -1 0 ->", standing(), 0, -1, 0);
+    text(rt, b"capacity and length apart: ");
+    ride(rt, b"ride 2 0 0 ->", capacity, 2, 0, 0);
+    ride(rt, b"ride 2 -1 0 ->", standing(), 2, -1, 0);
+    ride(rt, b"ride 0 -1 0 ->", standing(), 0, -1, 0);
     let mut short = [7u32; 1];
     let mut enough = [7u32; 2];
     ride_into(
+        rt,
         b"ride 1 -1 0 ->",
         standing(),
         1,
@@ -471,6 +503,7 @@ fn rides() {
         &mut enough,
     );
     ride_into(
+        rt,
         b"ride 1 0 1 ->",
         standing(),
         1,
@@ -480,6 +513,7 @@ fn rides() {
         &mut enough,
     );
     ride_into(
+        rt,
         b"ride 1 0 1 ->",
         standing(),
         1,
@@ -488,19 +522,19 @@ fn rides() {
         &mut enough,
         &mut short,
     );
-    ride(b"ride 1 0 0 ->", standing(), 1, 0, 0);
-    ride(b"ride 1 0 1 ->", standing(), 1, 0, 1);
-    text(b"north: ");
-    ride(b"ride 1 0 -1 ->", north(), 1, 0, -1);
+    ride(rt, b"ride 1 0 0 ->", standing(), 1, 0, 0);
+    ride(rt, b"ride 1 0 1 ->", standing(), 1, 0, 1);
+    text(rt, b"north: ");
+    ride(rt, b"ride 1 0 -1 ->", north(), 1, 0, -1);
 }
 
-pub fn small_town() {
-    opened();
-    text(b"standing");
-    soundness(standing());
-    reads();
-    records();
-    derived();
-    off_edges();
-    rides();
+pub fn small_town(rt: &impl Print) {
+    opened(rt);
+    text(rt, b"standing");
+    soundness(rt, standing());
+    reads(rt);
+    records(rt);
+    derived(rt);
+    off_edges(rt);
+    rides(rt);
 }

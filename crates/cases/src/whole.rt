@@ -7,6 +7,7 @@ use position::{Position, float_of};
 use squares::{Rect, Shape};
 
 pub fn say_sound(
+    rt: &impl Print,
     head: &[u32],
     zones: &[u32],
     cars: &[u32],
@@ -17,14 +18,15 @@ pub fn say_sound(
     tallies: &[u32],
 ) {
     match readings::soundness_of_town(head, zones, cars, spots, starts, entries, rosters, tallies) {
-        SoundnessOf::Refused(n) => number(n as u64),
-        SoundnessOf::Sound => text(b" sound"),
-        SoundnessOf::Unsound => text(b" unsound"),
+        SoundnessOf::Refused(n) => number(rt, n as u64),
+        SoundnessOf::Sound => text(rt, b" sound"),
+        SoundnessOf::Unsound => text(rt, b" unsound"),
     }
-    end();
+    end(rt);
 }
 
 pub fn open(
+    rt: &impl Print,
     head: &mut [u32],
     zones: &mut [u32],
     cars: &mut [u32],
@@ -38,17 +40,20 @@ pub fn open(
     C: u32,
     E: u32,
 ) {
-    text(b"M ->");
+    text(rt, b"M ->");
     match zones::open_town(
         head, zones, cars, spots, starts, entries, rosters, tallies, s.k, s.P, s.Q, Z, C, E,
     ) {
-        Opened::Refused(n) => number(n as u64),
-        Opened::Done => number(0),
+        Opened::Refused(n) => number(rt, n as u64),
+        Opened::Done => number(rt, 0),
     }
-    say_sound(head, zones, cars, spots, starts, entries, rosters, tallies);
+    say_sound(
+        rt, head, zones, cars, spots, starts, entries, rosters, tallies,
+    );
 }
 
 fn add(
+    rt: &impl Print,
     head: &[u32],
     zones: &mut [u32],
     cars: &[u32],
@@ -60,23 +65,26 @@ fn add(
     zone: u32,
     r: Rect,
 ) {
-    text(b"A");
-    number(zone as u64);
-    text(b" ->");
+    text(rt, b"A");
+    number(rt, zone as u64);
+    text(rt, b" ->");
     match zones::add_zone(
         head, zones, cars, spots, starts, entries, rosters, tallies, zone, r,
     ) {
-        Added::Refused(n) => number(n as u64),
+        Added::Refused(n) => number(rt, n as u64),
         Added::Done(squares, inside) => {
-            number(0);
-            number(squares as u64);
-            number(inside as u64);
+            number(rt, 0);
+            number(rt, squares as u64);
+            number(rt, inside as u64);
         }
     }
-    say_sound(head, zones, cars, spots, starts, entries, rosters, tallies);
+    say_sound(
+        rt, head, zones, cars, spots, starts, entries, rosters, tallies,
+    );
 }
 
 fn remove(
+    rt: &impl Print,
     head: &[u32],
     zones: &mut [u32],
     cars: &[u32],
@@ -87,19 +95,22 @@ fn remove(
     tallies: &mut [u32],
     zone: u32,
 ) {
-    text(b"D");
-    number(zone as u64);
-    text(b" ->");
+    text(rt, b"D");
+    number(rt, zone as u64);
+    text(rt, b" ->");
     match zones::remove_zone(
         head, zones, cars, spots, starts, entries, rosters, tallies, zone,
     ) {
-        Removed::Refused(n) => number(n as u64),
-        Removed::Done => number(0),
+        Removed::Refused(n) => number(rt, n as u64),
+        Removed::Done => number(rt, 0),
     }
-    say_sound(head, zones, cars, spots, starts, entries, rosters, tallies);
+    say_sound(
+        rt, head, zones, cars, spots, starts, entries, rosters, tallies,
+    );
 }
 
 fn report(
+    rt: &impl Print,
     head: &[u32],
     zones: &[u32],
     cars: &mut [u32],
@@ -119,9 +130,9 @@ fn report(
         x: float_of(x),
         y: float_of(y),
     };
-    text(b"P");
-    number(car as u64);
-    text(b" ->");
+    text(rt, b"P");
+    number(rt, car as u64);
+    text(rt, b" ->");
     match cars::report_car(
         head,
         zones,
@@ -137,20 +148,23 @@ fn report(
         &mut entered,
         &mut left,
     ) {
-        Reported::Refused(n) => number(n as u64),
+        Reported::Refused(n) => number(rt, n as u64),
         Reported::Done(squares, came, gone) => {
-            number(0);
-            number(squares as u64);
-            number(came as u64);
-            number(gone as u64);
+            number(rt, 0);
+            number(rt, squares as u64);
+            number(rt, came as u64);
+            number(rt, gone as u64);
         }
     }
-    say_sound(head, zones, cars, spots, starts, entries, rosters, tallies);
-    bracket(&entered);
-    bracket(&left);
+    say_sound(
+        rt, head, zones, cars, spots, starts, entries, rosters, tallies,
+    );
+    bracket(rt, &entered);
+    bracket(rt, &left);
 }
 
 fn leave(
+    rt: &impl Print,
     head: &[u32],
     zones: &[u32],
     cars: &mut [u32],
@@ -162,24 +176,27 @@ fn leave(
     car: u32,
 ) {
     let mut left = [7u32; 16];
-    text(b"L");
-    number(car as u64);
-    text(b" ->");
+    text(rt, b"L");
+    number(rt, car as u64);
+    text(rt, b" ->");
     match cars::leave_map(
         head, zones, cars, spots, starts, entries, rosters, tallies, car, &mut left,
     ) {
-        Left::Refused(n) => number(n as u64),
+        Left::Refused(n) => number(rt, n as u64),
         Left::Done(squares, gone) => {
-            number(0);
-            number(squares as u64);
-            number(gone as u64);
+            number(rt, 0);
+            number(rt, squares as u64);
+            number(rt, gone as u64);
         }
     }
-    say_sound(head, zones, cars, spots, starts, entries, rosters, tallies);
-    bracket(&left);
+    say_sound(
+        rt, head, zones, cars, spots, starts, entries, rosters, tallies,
+    );
+    bracket(rt, &left);
 }
 
 fn roster(
+    rt: &impl Print,
     head: &[u32],
     zones: &[u32],
     cars: &[u32],
@@ -191,22 +208,23 @@ fn roster(
     zone: u32,
 ) {
     let mut out = [7u32; 64];
-    text(b"R");
-    number(zone as u64);
-    text(b" ->");
+    text(rt, b"R");
+    number(rt, zone as u64);
+    text(rt, b" ->");
     match readings::roster_of_zone(
         head, zones, cars, spots, starts, entries, rosters, tallies, zone, &mut out,
     ) {
-        RosterOf::Refused(n) => number(n as u64),
+        RosterOf::Refused(n) => number(rt, n as u64),
         RosterOf::Cars(n) => {
-            number(0);
-            number(n as u64);
+            number(rt, 0);
+            number(rt, n as u64);
         }
     }
-    bracket(&out);
+    bracket(rt, &out);
 }
 
 fn count(
+    rt: &impl Print,
     head: &[u32],
     zones: &[u32],
     cars: &[u32],
@@ -217,22 +235,23 @@ fn count(
     tallies: &[u32],
     zone: u32,
 ) {
-    text(b"count");
-    number(zone as u64);
-    text(b" ->");
+    text(rt, b"count");
+    number(rt, zone as u64);
+    text(rt, b" ->");
     match readings::count_of_zone(
         head, zones, cars, spots, starts, entries, rosters, tallies, zone,
     ) {
-        CountOf::Refused(n) => number(n as u64),
+        CountOf::Refused(n) => number(rt, n as u64),
         CountOf::Cars(n) => {
-            number(0);
-            number(n as u64);
+            number(rt, 0);
+            number(rt, n as u64);
         }
     }
-    end();
+    end(rt);
 }
 
 fn holder(
+    rt: &impl Print,
     head: &[u32],
     zones: &[u32],
     cars: &[u32],
@@ -243,15 +262,19 @@ fn holder(
     tallies: &[u32],
     zone: u32,
 ) {
-    text(b"holder");
-    number(zone as u64);
-    text(b" ->");
-    say_holder(readings::holder_of_zone(
-        head, zones, cars, spots, starts, entries, rosters, tallies, zone,
-    ));
+    text(rt, b"holder");
+    number(rt, zone as u64);
+    text(rt, b" ->");
+    say_holder(
+        rt,
+        readings::holder_of_zone(
+            head, zones, cars, spots, starts, entries, rosters, tallies, zone,
+        ),
+    );
 }
 
 fn scoring(
+    rt: &impl Print,
     head: &[u32],
     zones: &[u32],
     cars: &[u32],
@@ -263,22 +286,26 @@ fn scoring(
     x: u32,
     y: u32,
 ) {
-    text(b"scoring");
-    number(x as u64);
-    number(y as u64);
-    text(b" ->");
+    text(rt, b"scoring");
+    number(rt, x as u64);
+    number(rt, y as u64);
+    text(rt, b" ->");
     let p = Position {
         x: float_of(x),
         y: float_of(y),
     };
-    say_scoring(readings::scoring_of_spot(
-        head, zones, cars, spots, starts, entries, rosters, tallies, p,
-    ));
+    say_scoring(
+        rt,
+        readings::scoring_of_spot(
+            head, zones, cars, spots, starts, entries, rosters, tallies, p,
+        ),
+    );
 }
 
 // One line: what it asks, and five numbers, a report's third being its team, a ride's first two its columns and rows. A roster's
 // count and holder follow it.
 fn line(
+    rt: &impl Print,
     head: &[u32],
     zones: &mut [u32],
     cars: &mut [u32],
@@ -296,6 +323,7 @@ fn line(
 ) {
     if letter == 65 {
         add(
+            rt,
             head,
             zones,
             cars,
@@ -311,47 +339,48 @@ fn line(
     }
     if letter == 68 {
         remove(
-            head, zones, cars, spots, starts, entries, rosters, tallies, n,
+            rt, head, zones, cars, spots, starts, entries, rosters, tallies, n,
         );
         return;
     }
     if letter == 80 {
         report(
-            head, zones, cars, spots, starts, entries, rosters, tallies, n, w, a, b,
+            rt, head, zones, cars, spots, starts, entries, rosters, tallies, n, w, a, b,
         );
         return;
     }
     if letter == 76 {
         leave(
-            head, zones, cars, spots, starts, entries, rosters, tallies, n,
+            rt, head, zones, cars, spots, starts, entries, rosters, tallies, n,
         );
         return;
     }
     if letter == 84 {
         ride(
-            head, zones, cars, spots, starts, entries, rosters, tallies, n, a, b,
+            rt, head, zones, cars, spots, starts, entries, rosters, tallies, n, a, b,
         );
         return;
     }
     if letter == 83 {
         scoring(
-            head, zones, cars, spots, starts, entries, rosters, tallies, a, b,
+            rt, head, zones, cars, spots, starts, entries, rosters, tallies, a, b,
         );
         return;
     }
     roster(
-        head, zones, cars, spots, starts, entries, rosters, tallies, n,
+        rt, head, zones, cars, spots, starts, entries, rosters, tallies, n,
     );
     count(
-        head, zones, cars, spots, starts, entries, rosters, tallies, n,
+        rt, head, zones, cars, spots, starts, entries, rosters, tallies, n,
     );
     holder(
-        head, zones, cars, spots, starts, entries, rosters, tallies, n,
+        rt, head, zones, cars, spots, starts, entries, rosters, tallies, n,
     );
 }
 
 // Lines, each of six numbers.
 pub fn lines(
+    rt: &impl Print,
     head: &[u32],
     zones: &mut [u32],
     cars: &mut [u32],
@@ -367,6 +396,7 @@ pub fn lines(
     while i < many {
         let at = 6 * i;
         line(
+            rt,
             head,
             zones,
             cars,
@@ -731,7 +761,7 @@ const SCRIPT: [u32; 336] = [
     0,
 ];
 
-pub fn whole_case(s: Shape) {
+pub fn whole_case(rt: &impl Print, s: Shape) {
     let mut head = [7u32; 6];
     let mut zones = [7u32; 64];
     let mut cars = [7u32; 64];
@@ -741,6 +771,7 @@ pub fn whole_case(s: Shape) {
     let mut rosters = [7u8; 1024];
     let mut tallies = [7u32; 160];
     open(
+        rt,
         &mut head,
         &mut zones,
         &mut cars,
@@ -755,6 +786,7 @@ pub fn whole_case(s: Shape) {
         2048,
     );
     lines(
+        rt,
         &head,
         &mut zones,
         &mut cars,

@@ -9,8 +9,8 @@ use Rattle.pieces.specs.Pieces.{held_in, holding}
 use Rattle.replay.specs.Run.{after_lines}
 use Rattle.pieces.specs.declared.pieces.Filling.{Filling}
 use Rattle.pieces.specs.declared.pieces.Filling.TheVariants.{Refused, Done}
-use Rattle.log.specs.declared.Moved.{Moved}
-use Rattle.log.specs.declared.Moved.TheVariants.{Failed, Ended, Bytes}
+use Rattle.run_log.specs.declared.Moved.{Moved}
+use Rattle.run_log.specs.declared.Moved.TheVariants.{Failed, Ended, Bytes}
 
 -- the program's tables, the bytes of a line that has not ended, and a buffer that an answer fits
 pub record Carries (t : Tables) (b o : List ℕ) : Type 0 where

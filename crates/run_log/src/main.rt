@@ -3,11 +3,13 @@
 
 ghost use Rattle.std.specs.Prelude.{◌<◌, ◌≤◌, ◌≡◌, length};
 ghost use Rattle.tables.specs.Lent.{lent, given, as_written};
-ghost use Rattle.log.specs.Carried.{many_of, Filled, Put, Carries, Carried};
+ghost use Rattle.run_log.specs.Carried.{many_of, Filled, Put, Carries, Carried};
 
-use libc::{STDIN_FILENO, STDOUT_FILENO};
 use pieces::Filling;
 use replay::{answer_end, answer_piece};
+use std::io;
+use std::io::{ErrorKind, Read, Write};
+use std::process::ExitCode;
 use tables::TALLY;
 
 // What a read or a write did.
@@ -26,47 +28,47 @@ enum Ending {
     Unwritten,
 }
 
-// Reads some bytes. A read that was merely interrupted is tried again.
+// Reads some bytes. A read that was merely interrupted is tried again; why one failed is kept.
 // Nothing says that it is not interrupted for ever, so the loop counts down from a number that no run uses up.
-fn read_some(piece: &mut [u8]) -> Moved
+fn read_some<R: Read>(input: &mut R, reason: &mut Option<io::Error>, piece: &mut [u8]) -> Moved
     ensures { many_of result ≤ length piece.new }
 {
     let mut turns = u64::MAX;
     while turns > 0 {
-        let got = libc::read(STDIN_FILENO, piece);
-        if got > 0 {
-            return Moved::Bytes(io::count(got, piece));
-        }
-        if got == 0 {
-            return Moved::Ended;
-        }
-        if os::errno() != libc::EINTR {
-            return Moved::Failed;
+        match input.read(piece) {
+            Ok(0) => return Moved::Ended,
+            Ok(n) => return Moved::Bytes(n),
+            Err(error) => {
+                if error.kind() != ErrorKind::Interrupted {
+                    *reason = Some(error);
+                    return Moved::Failed;
+                }
+            }
         }
         turns -= 1;
     }
     Moved::Failed
 }
 
-// Writes some of the bytes: none, where the write was merely interrupted.
-fn write_some(bytes: &[u8]) -> Moved
+// Writes some of the bytes: none, where the write was merely interrupted. Why one failed is kept.
+fn write_some<W: Write>(output: &mut W, reason: &mut Option<io::Error>, bytes: &[u8]) -> Moved
     ensures { many_of result ≤ length bytes.now }
 {
-    let got = libc::write(STDOUT_FILENO, bytes);
-    if got > 0 {
-        return Moved::Bytes(io::count(got, bytes));
+    match output.write(bytes) {
+        Ok(0) => Moved::Failed,
+        Ok(n) => Moved::Bytes(n),
+        Err(error) => {
+            if error.kind() == ErrorKind::Interrupted {
+                return Moved::Bytes(0);
+            }
+            *reason = Some(error);
+            Moved::Failed
+        }
     }
-    if got == 0 {
-        return Moved::Failed;
-    }
-    if os::errno() != libc::EINTR {
-        return Moved::Failed;
-    }
-    Moved::Bytes(0)
 }
 
 // Writes all of the bytes, and answers whether they were written.
-fn write_whole(bytes: &[u8]) -> bool {
+fn write_whole<W: Write>(output: &mut W, reason: &mut Option<io::Error>, bytes: &[u8]) -> bool {
     let mut at = 0;
     let mut turns = u64::MAX;
     while at < bytes.len() {
@@ -74,7 +76,7 @@ fn write_whole(bytes: &[u8]) -> bool {
             return false;
         }
         turns -= 1;
-        let Moved::Bytes(n) = write_some(&bytes[at..]) else {
+        let Moved::Bytes(n) = write_some(output, reason, &bytes[at..]) else {
             return false;
         };
         at += n;
@@ -94,14 +96,19 @@ fn many(moved: Moved) -> usize
 }
 
 // Writes what a buffer was filled with, and answers how much of the piece was read for it.
-fn put(filling: Filling, out: &[u8]) -> Moved
+fn put<W: Write>(
+    output: &mut W,
+    reason: &mut Option<io::Error>,
+    filling: Filling,
+    out: &[u8],
+) -> Moved
     requires { Filled out.now filling }
     ensures { Put filling result }
 {
     let Filling::Done(read, wrote) = filling else {
         return Moved::Failed;
     };
-    if !write_whole(&out[..wrote]) {
+    if !write_whole(output, reason, &out[..wrote]) {
         return Moved::Failed;
     }
     Moved::Bytes(read)
@@ -109,7 +116,9 @@ fn put(filling: Filling, out: &[u8]) -> Moved
 
 // Answers a piece of the input and writes the answers, a buffer at a time, until no more is read. Answers whether that was at
 // the end of the piece: it was not where a write failed.
-fn carry(
+fn carry<W: Write>(
+    output: &mut W,
+    reason: &mut Option<io::Error>,
     head: &mut [u32],
     zones: &mut [u32],
     cars: &mut [u32],
@@ -141,7 +150,7 @@ fn carry(
             held,
             out,
         );
-        read = many(put(filling, out));
+        read = many(put(output, reason, filling, out));
         at += read;
     }
     at == piece.len()
@@ -182,25 +191,26 @@ fn turns_left(turns: u64, read: usize, written: bool) -> u64
     turns - 1
 }
 
-// Says on standard error why a run stopped. One that came to its end says 0 to whoever started it with an argument, on
-// descriptor 3.
-fn tell(ending: Ending) {
-    match ending {
-        Ending::Answered => {
-            if os::arg_count() > 1 {
-                io::write_all(3, b"0\n");
-            }
-        }
-        Ending::Unread => os::fail(
-            b"log: the input cannot be read; a line that has not ended is not carried out",
-        ),
-        Ending::Unwritten => os::fail(b"log: the answers cannot be written"),
-    }
+// Says on standard error why a run stopped. The status is 0 where it came to its end.
+fn tell(rt: &impl Eprint, ending: Ending, reason: Option<io::Error>) -> ExitCode {
+    let what = match ending {
+        Ending::Answered => return ExitCode::SUCCESS,
+        Ending::Unread => "the input cannot be read; a line that has not ended is not carried out",
+        Ending::Unwritten => "the answers cannot be written",
+    };
+    let _ = match reason {
+        Some(error) => eprintln!(rt; "log: {what}: {error}"),
+        None => eprintln!(rt; "log: {what}"),
+    };
+    ExitCode::FAILURE
 }
 
 // Reads, answers and writes, a piece at a time, up to the end of the input. Where a read fails, what is held of a line is not
 // answered. Nothing says that an input ends, so the loop counts down from a number that no run uses up.
-fn main() {
+fn main(rt: HostRuntime) -> ExitCode {
+    let mut input = rt.stdin();
+    let mut output = rt.stdout();
+    let mut reason = None;
     let mut head = [0u32; 6];
     let mut zones = [0u32; 64];
     let mut cars = [0u32; 64];
@@ -215,9 +225,11 @@ fn main() {
     let mut turns = u64::MAX;
     let mut ending = Ending::Unread;
     while turns > 0 {
-        let read = read_some(&mut piece);
+        let read = read_some(&mut input, &mut reason, &mut piece);
         let n = many(read);
         let written = carry(
+            &mut output,
+            &mut reason,
             &mut head,
             &mut zones,
             &mut cars,
@@ -234,8 +246,7 @@ fn main() {
         turns = turns_left(turns, n, written);
     }
     let Ending::Answered = ending else {
-        tell(ending);
-        return;
+        return tell(&rt, ending, reason);
     };
     let last = answer_end(
         &mut head,
@@ -249,5 +260,6 @@ fn main() {
         &mut held,
         &mut out,
     );
-    tell(ended(put(last, &out)));
+    let ending = ended(put(&mut output, &mut reason, last, &out));
+    tell(&rt, ending, reason)
 }

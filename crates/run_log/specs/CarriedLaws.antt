@@ -20,9 +20,9 @@ use Rattle.pieces.specs.Leaves.{Refuses}
 use Rattle.pieces.specs.PromiseLaws.{refused_none}
 use Rattle.replay.specs.Run.{start, after_lines}
 use Rattle.replay.specs.RunLaws.{tables_of, ready-lines, tables-append, Reads, fill-seen, held-few, held_back, ready-start}
-use Rattle.log.specs.declared.Moved.{Moved}
-use Rattle.log.specs.declared.Moved.TheVariants.{Failed, Ended, Bytes}
-use Rattle.log.specs.Carried.{many_of, Filled, Put, Carries, Carried}
+use Rattle.run_log.specs.declared.Moved.{Moved}
+use Rattle.run_log.specs.declared.Moved.TheVariants.{Failed, Ended, Bytes}
+use Rattle.run_log.specs.Carried.{many_of, Filled, Put, Carries, Carried}
 
 rest-is : (bytes : List ℕ) (at : ℕ) → take (length bytes - at) (drop at bytes) ≡ drop at bytes
 rest-is bytes at = take_all (length bytes - at) (drop at bytes) (omega (arith, length-drop at bytes))
