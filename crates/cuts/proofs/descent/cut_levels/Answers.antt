@@ -18,20 +18,20 @@ set_places-count-requires c = places-room c.requires
 
 pub slice_bounds-places-end-2 : goal.slice_bounds-places-end-2
 slice_bounds-places-end-2 c =
-    let sized : length c.set_places-count.new.1.1.0 ≡ c.args.s.k + 1 = c.set_places-count.auto.1.1.0 ∙ length-take-le _ _ (omega (arith, c.requires.shape.levels)) in
+    let sized : length c.set_places-count.new.places ≡ c.args.s.k + 1 = c.set_places-count.auto.places ∙ length-take-le _ _ (omega (arith, c.requires.shape.levels)) in
     simp length-append (omega (arith, sized))
 
 pub slice_bounds-cut_rows-end : goal.slice_bounds-cut_rows-end
 slice_bounds-cut_rows-end c =
-    let sized : length c.set_places-count.new.1.1.0 ≡ c.args.s.k + 1 = c.set_places-count.auto.1.1.0 ∙ length-take-le _ _ (omega (arith, c.requires.shape.levels)) in
+    let sized : length c.set_places-count.new.places ≡ c.args.s.k + 1 = c.set_places-count.auto.places ∙ length-take-le _ _ (omega (arith, c.requires.shape.levels)) in
     count-front _ _ (simp length-append (omega (arith, sized)))
 
 pub cut_rows-requires : goal.cut_rows-requires
 cut_rows-requires c =
-    let sized : length c.set_places-count.new.1.1.0 ≡ c.args.s.k + 1 = c.set_places-count.auto.1.1.0 ∙ length-take-le _ _ (omega (arith, c.requires.shape.levels)) in
+    let sized : length c.set_places-count.new.places ≡ c.args.s.k + 1 = c.set_places-count.auto.places ∙ length-take-le _ _ (omega (arith, c.requires.shape.levels)) in
     cut-room c.requires sized c.set_places-count.ensures _
 
 pub returns : goal.returns
 returns c =
-    let sized : length c.set_places-count.new.1.1.0 ≡ c.args.s.k + 1 = c.set_places-count.auto.1.1.0 ∙ length-take-le _ _ (omega (arith, c.requires.shape.levels)) in
+    let sized : length c.set_places-count.new.places ≡ c.args.s.k + 1 = c.set_places-count.auto.places ∙ length-take-le _ _ (omega (arith, c.requires.shape.levels)) in
     cut-laid c.requires sized c.set_places-count.ensures _ c.cut_rows.ensures

@@ -10,7 +10,7 @@ loop-entries-init c = sink_begins c.requires
 
 pub bounds-gone-a : goal.bounds-gone-a
 bounds-gone-a c =
-    let to_drop : (y : tie.Then2 invariant-loop decreases-loop) → (turn y.before).loop.a < (start (turn y.before)).args.i = (c.drops_next.ensures.drop c.if-drops_next.true).0 in
+    let to_drop : c.loop-entries.a < c.args.i = (c.drops_next.ensures.drop c.if-drops_next.true).0 in
     omega (arith, to_drop)
 
 pub returns-then-place-end : goal.returns-then-place-end
@@ -18,7 +18,7 @@ returns-then-place-end c = drop-stops c.requires c.loop-entries.invariant (c.dro
 
 pub loop-entries-smaller-then-drops_next : goal.loop-entries-smaller-then-drops_next
 loop-entries-smaller-then-drops_next c =
-    let to_drop : (y : tie.Then2 invariant-loop decreases-loop) → (turn y.before).loop.a < (start (turn y.before)).args.i = (c.drops_next.ensures.drop c.if-drops_next.true).0 in
+    let to_drop : c.loop-entries.a < c.args.i = (c.drops_next.ensures.drop c.if-drops_next.true).0 in
     omega (arith, to_drop)
 
 pub loop-entries-preserved-then-drops_next : goal.loop-entries-preserved-then-drops_next
@@ -29,12 +29,12 @@ returns-then-a-b c = take-stops c.requires c.loop-entries.invariant (c.goes_on.e
 
 pub bounds-come-b : goal.bounds-come-b
 bounds-come-b c =
-    let to_take : (y : tie.Else2 invariant-loop decreases-loop) → (turn y.before).loop.b < (start (turn y.before)).args.j = take_left c.requires c.loop-entries.invariant (c.goes_on.ensures.on c.loop-entries-test.true) (c.drops_next.ensures.take c.if-drops_next.false) in
+    let to_take : c.loop-entries.b < c.args.j = take_left c.requires c.loop-entries.invariant (c.goes_on.ensures.on c.loop-entries-test.true) (c.drops_next.ensures.take c.if-drops_next.false) in
     omega (arith, to_take)
 
 pub loop-entries-smaller : goal.loop-entries-smaller
 loop-entries-smaller c =
-    let to_take : (y : tie.Else2 invariant-loop decreases-loop) → (turn y.before).loop.b < (start (turn y.before)).args.j = take_left c.requires c.loop-entries.invariant (c.goes_on.ensures.on c.loop-entries-test.true) (c.drops_next.ensures.take c.if-drops_next.false) in
+    let to_take : c.loop-entries.b < c.args.j = take_left c.requires c.loop-entries.invariant (c.goes_on.ensures.on c.loop-entries-test.true) (c.drops_next.ensures.take c.if-drops_next.false) in
     omega (arith, to_take)
 
 pub loop-entries-preserved : goal.loop-entries-preserved
