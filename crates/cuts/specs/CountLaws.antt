@@ -12,7 +12,6 @@ use Rattle.order.specs.TestLaws.{same-or-other, both_ways, true-not-false}
 use Rattle.order.specs.SumLaws.{sum-ext, sum-plus, sum-times, sum-grid, count-sum, count-between}
 use Rattle.squares.specs.declared.shape.Shape.{Shape}
 use Rattle.squares.specs.declared.shape.Rect.{Rect}
-use Rattle.squares.specs.Shape.{side}
 use Rattle.squares.specs.Bounds.{Fits}
 use Rattle.squares.specs.Squares.{side_on, squares_on, corner_x, corner_y}
 use Rattle.cuts.specs.Cut.{inside, in_cut, cut_on, cut_to}

@@ -2,7 +2,6 @@
 use native.Mathlib.Omega.{arith}
 use Rattle.order.specs.BufferLaws.{count-front}
 use Rattle.cuts.specs.CountLaws.{places-room}
-use borrow.Author.Rules.{rules}
 use Rattle.cuts.proofs.count.cut_count.Goals as goal
 
 pub slice_bounds-set_places-end : goal.slice_bounds-set_places-end

@@ -1,6 +1,6 @@
 -- The squares of a cut counted: each turn adds those of one level that are inside and have no parent inside.
-use Prim.Native.Nat.{suc, ◌-◌, ◌*◌, ◌≤◌}
-use Rattle.cuts.specs.CountLaws.{CountTurn, count-begins, count_room, count-turns, count-ends}
+use Prim.Native.Nat.{◌*◌, ◌≤◌}
+use Rattle.cuts.specs.CountLaws.{count-begins, count_room, count-turns, count-ends}
 use borrow.Author.Rules.{rules}
 use Rattle.cuts.proofs.count.set_places.Goals as goal
 

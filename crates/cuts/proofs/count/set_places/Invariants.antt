@@ -1,6 +1,5 @@
-use Prim.Native.Nat.{suc, ◌-◌, ◌*◌, ◌≤◌}
-use Rattle.cuts.specs.CountLaws.{CountTurn, count-begins, count_room, count-turns, count-ends}
-use borrow.Author.Rules.{rules}
+use Prim.Native.Nat.{suc, ◌-◌}
+use Rattle.cuts.specs.CountLaws.{CountTurn}
 use Rattle.cuts.proofs.count.set_places.Given as goal
 
 abbrev pub invariant-loop-level : goal.invariant-loop-level

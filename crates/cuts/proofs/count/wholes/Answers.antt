@@ -2,7 +2,6 @@
 use mathlib.Core.Path.{refl}
 use native.Mathlib.Omega.{arith}
 use Rattle.cuts.specs.CountLaws.{wholes-is}
-use borrow.Author.Rules.{rules}
 use Rattle.cuts.proofs.count.wholes.Goals as goal
 
 pub returns-then-end-first : goal.returns-then-end-first

@@ -16,8 +16,9 @@ descend-requires t c = (omega (arith, c.decreases, c.requires.room.level, c.requ
 pub loop-c-preserved : goal.loop-c-preserved
 loop-c-preserved t c =
     elim c.if-take_square.branch [
-      then-take_square w ↦ rw (w.out-is, w.next-is) (child-turns c.requires c.loop-c-test.true c.loop-c.invariant (gone-on c.take_square.ensures w.if-take_square.true w.descend.ensures))
-    | else-take_square w ↦ rw (w.out-is, w.next-is) (child-turns c.requires c.loop-c-test.true c.loop-c.invariant (c.take_square.ensures.ends w.if-take_square.false)) ]
+      | then-take_square w ↦ rw (w.out-is, w.next-is) (child-turns c.requires c.loop-c-test.true c.loop-c.invariant (gone-on c.take_square.ensures w.if-take_square.true w.descend.ensures))
+      | else-take_square w ↦ rw (w.out-is, w.next-is) (child-turns c.requires c.loop-c-test.true c.loop-c.invariant (c.take_square.ensures.ends w.if-take_square.false))
+    ]
 
 pub returns : goal.returns
 returns t c = child-ends c.requires c.loop-c.invariant c.loop-c-test.false

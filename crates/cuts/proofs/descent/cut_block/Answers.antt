@@ -1,7 +1,6 @@
 -- The cut in a block: the block looked at, and where it is crossed its children.
 use borrow.Author.Tests.{not-true, not-false}
 use Rattle.cuts.specs.StepLaws.{goes_on, gone-on}
-use borrow.Author.Rules.{rules}
 use Rattle.cuts.proofs.descent.cut_block.Goals as goal
 
 pub returns-then-not-take_square : goal.returns-then-not-take_square

@@ -7,7 +7,6 @@ use lib.Seq.{length-take-le}
 use Rattle.order.specs.BufferLaws.{count-front}
 use Rattle.cuts.specs.CountLaws.{places-room}
 use Rattle.cuts.specs.LoopLaws.{cut-room, cut-laid}
-use borrow.Author.Rules.{rules}
 use Rattle.cuts.proofs.descent.cut_levels.Goals as goal
 
 pub slice_bounds-set_places-end : goal.slice_bounds-set_places-end

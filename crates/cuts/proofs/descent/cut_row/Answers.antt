@@ -1,8 +1,8 @@
 -- The cut in one row of blocks: each turn stores what lies in one block after those before it.
-use Prim.Native.Nat.{◌+◌, ◌-◌, ◌*◌}
+use Prim.Native.Nat.{◌+◌, ◌*◌}
 use Rattle.cuts.specs.Leaves.{Room}
 use Rattle.cuts.specs.LayLaws.{lays-length}
-use Rattle.cuts.specs.LoopLaws.{RowTurn, row-short, row-begins, row_room, row-turns, row_ends}
+use Rattle.cuts.specs.LoopLaws.{row-short, row-begins, row_room, row-turns, row_ends}
 use borrow.Author.Rules.{rules}
 use Rattle.cuts.proofs.descent.cut_row.Goals as goal
 

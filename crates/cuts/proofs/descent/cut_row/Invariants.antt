@@ -1,8 +1,5 @@
-use Prim.Native.Nat.{◌+◌, ◌-◌, ◌*◌}
-use Rattle.cuts.specs.Leaves.{Room}
-use Rattle.cuts.specs.LayLaws.{lays-length}
-use Rattle.cuts.specs.LoopLaws.{RowTurn, row-short, row-begins, row_room, row-turns, row_ends}
-use borrow.Author.Rules.{rules}
+use Prim.Native.Nat.{◌-◌}
+use Rattle.cuts.specs.LoopLaws.{RowTurn}
 use Rattle.cuts.proofs.descent.cut_row.Given as goal
 
 abbrev pub invariant-loop-column : goal.invariant-loop-column

@@ -1,7 +1,6 @@
 -- The cut row by row of blocks: each turn stores one row after those before it.
-use Prim.Native.Nat.{◌-◌}
 use Rattle.cuts.specs.LayLaws.{lays-length}
-use Rattle.cuts.specs.LoopLaws.{RowsTurn, rows_short, rows-begin, rows-room, rows-turn, rows-ends}
+use Rattle.cuts.specs.LoopLaws.{rows_short, rows-begin, rows-room, rows-turn, rows-ends}
 use borrow.Author.Rules.{rules}
 use Rattle.cuts.proofs.descent.cut_rows.Goals as goal
 

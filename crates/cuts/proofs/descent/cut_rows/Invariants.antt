@@ -1,7 +1,5 @@
 use Prim.Native.Nat.{◌-◌}
-use Rattle.cuts.specs.LayLaws.{lays-length}
-use Rattle.cuts.specs.LoopLaws.{RowsTurn, rows_short, rows-begin, rows-room, rows-turn, rows-ends}
-use borrow.Author.Rules.{rules}
+use Rattle.cuts.specs.LoopLaws.{RowsTurn}
 use Rattle.cuts.proofs.descent.cut_rows.Given as goal
 
 abbrev pub invariant-loop-row : goal.invariant-loop-row

@@ -5,7 +5,6 @@ use native.Mathlib.Omega.{arith}
 use borrow.Author.Tests.{not-true, not-false}
 use Rattle.cuts.specs.Cut.{inside}
 use Rattle.cuts.specs.MemberLaws.{Quarter, near-square, inside-square, both-parent, quarter, parent_of, parent-square, cut-outside, cut-top, cut-lower}
-use borrow.Author.Rules.{rules}
 use Rattle.cuts.proofs.member.in_cut.Goals as goal
 
 pub within-requires : goal.within-requires

@@ -2,13 +2,11 @@
 use mathlib.Core.Bool.{true}
 use mathlib.Core.Path.{◌≡◌}
 use native.Mathlib.Omega.{arith}
-use Rattle.squares.specs.declared.shape.Shape.{Shape}
 use Rattle.squares.specs.Shape.{shape, allowed, fits}
 use Rattle.squares.specs.ShapeLaws.{allowed→, fits→, shaped→, not-shaped}
 use Rattle.cuts.specs.Leaves.{AllRoom}
 use Rattle.squares.specs.RefusalLaws.{holds, fails}
 use Rattle.grid.specs.PromiseLaws.{cut-stops, cut_short, cut-listed}
-use borrow.Author.Rules.{rules}
 use Rattle.grid.proofs.cut.cut_of_rectangle.Goals as goal
 
 pub returns-in_default : goal.returns-in_default

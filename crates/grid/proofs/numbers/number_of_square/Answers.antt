@@ -1,13 +1,11 @@
 -- The number of a square: 1 without a shape, 13 without a corner, else the number.
 use mathlib.Core.Bool.{true}
 use mathlib.Core.Path.{◌≡◌}
-use Rattle.squares.specs.declared.shape.Shape.{Shape}
 use Rattle.squares.specs.Shape.{shape, allowed}
 use Rattle.squares.specs.Squares.{is_corner}
 use Rattle.squares.specs.ShapeLaws.{allowed→, corner→, shaped→, not-shaped}
 use Rattle.squares.specs.RefusalLaws.{holds, fails}
 use Rattle.grid.specs.PromiseLaws.{number-stops}
-use borrow.Author.Rules.{rules}
 use Rattle.grid.proofs.numbers.number_of_square.Goals as goal
 
 pub returns-in_default : goal.returns-in_default

@@ -2,11 +2,9 @@
 use mathlib.Core.Bool.{true}
 use mathlib.Core.Path.{◌≡◌}
 use native.Mathlib.Omega.{arith}
-use Rattle.squares.specs.declared.shape.Shape.{Shape}
 use Rattle.squares.specs.Shape.{shape, allowed}
 use Rattle.squares.specs.ShapeLaws.{allowed→, shaped→, not-shaped}
 use Rattle.grid.specs.PromiseLaws.{square-stops, level-beyond, number-beyond, number-there}
-use borrow.Author.Rules.{rules}
 use Rattle.grid.proofs.numbers.square_of_number.Goals as goal
 
 pub returns-in_default : goal.returns-in_default
