@@ -113,13 +113,15 @@ climb marked (suc i) = cond (marked (suc i)) 1 (1 + climb marked i)
 abbrev pub levels : Town → Position → ℕ
 levels m p = climb (λ (i : ℕ). filled (zones_on m p i)) m.opening.shape.k
 
--- the squares of a zone's cut, where it stands; standing entries: those of all zones
+-- the squares of a zone's cut, where it stands
 abbrev pub cut_of : Shape → Option Rect → List ℕ
 cut_of s none = []
 cut_of s (some r) = cut s r
 
+-- standing entries: the squares of the standing zones' cuts
 abbrev pub cut_size : Shape → Option Rect → ℕ
-cut_size s zone = length (cut_of s zone)
+cut_size s none = 0
+cut_size s (some r) = length (cut s r)
 
 abbrev pub entries_used : Town → ℕ
 entries_used m = sum (λ (z : ℕ). cut_size m.opening.shape (m.zone z)) m.opening.zones

@@ -1,5 +1,4 @@
-use Rattle.std.proofs.Common.{◌≡◌, ◌-◌, ◌≤◌, ◌++◌, length, drop, replicate, refl, arith, rules}
-use Rattle.tables.specs.RowLaws.{fill-turn, fill_done}
+use Rattle.std.proofs.Common.{◌≡◌, ◌-◌, ◌≤◌, ◌++◌, length, drop, replicate}
 use Rattle.tables.proofs.fill.fill_bytes.Given as goal
 
 abbrev pub invariant-loop-i : goal.invariant-loop-i

@@ -1,5 +1,5 @@
 -- `fill_words` has set the numbers before i, and the others are as they were.
-use Rattle.std.proofs.Common.{◌≡◌, ◌-◌, ◌≤◌, ◌++◌, length, drop, replicate, refl, arith, rules}
+use Rattle.std.proofs.Common.{refl, arith, rules}
 use Rattle.tables.specs.RowLaws.{fill-turn, fill_done}
 use Rattle.tables.proofs.fill.fill_words.Goals as goal
 

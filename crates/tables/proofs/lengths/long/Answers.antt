@@ -1,6 +1,6 @@
 -- `long` says no at the first table of another length, and yes past all eight.
 use Rattle.std.proofs.Common.{◌≡◌, false, sym, mul-le-mul, arith, rules}
-use Rattle.tables.specs.Tables.{Tables, tables}
+use Rattle.tables.specs.Tables.{tables}
 use Rattle.tables.specs.Check.{long}
 use Rattle.tables.specs.Sizes.{Long}
 use Rattle.tables.specs.CheckLaws.{→long, not-long}

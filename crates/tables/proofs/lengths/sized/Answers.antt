@@ -1,10 +1,10 @@
 -- `sized` is check 3: the length of head, the shape, the capacities, then every length.
-use Rattle.std.proofs.Common.{◌≡◌, true, sym, ap, ◌∙◌, rules}
+use Rattle.std.proofs.Common.{◌≡◌, true, sym, ap, ◌∙◌}
 use borrow.Author.Tests.{not-true, not-false}
 use Rattle.squares.specs.Shape.{allowed}
 use Rattle.squares.specs.ShapeLaws.{allowed→}
 use Rattle.model.specs.Model.{roomy}
-use Rattle.tables.specs.Tables.{Tables, tables, shape_of, zone_room, car_room, entry_room}
+use Rattle.tables.specs.Tables.{tables, shape_of, zone_room, car_room, entry_room}
 use Rattle.tables.specs.Sizes.{Sized}
 use Rattle.tables.specs.CheckLaws.{not-sized, sized-shape, sized-room, sized-long, roomy→, roomy-same, long_same}
 use Rattle.tables.proofs.lengths.sized.Goals as goal

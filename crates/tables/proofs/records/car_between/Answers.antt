@@ -1,5 +1,5 @@
 -- `car_between` is the two tests together.
-use Rattle.std.proofs.Common.{◌&&◌, ap, ◌∙◌, ap₂, rules}
+use Rattle.std.proofs.Common.{◌&&◌, ap, ◌∙◌, ap₂}
 use Rattle.position.specs.Band.{in_bands}
 use Rattle.tables.specs.Slots.{car_between}
 use Rattle.tables.proofs.records.car_between.Goals as goal

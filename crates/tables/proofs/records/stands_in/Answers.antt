@@ -1,5 +1,4 @@
 -- `stands_in` tells by the width of the rectangle that `rect_in` reads.
-use Rattle.std.proofs.Common.{rules}
 use Rattle.tables.proofs.records.stands_in.Goals as goal
 
 pub returns : goal.returns

@@ -1,6 +1,5 @@
 -- `team_fits`: no above the last team, yes off the map, and on it by the team held.
 use Rattle.tables.specs.SlotLaws.{team-none, team-free, team-held}
-use Rattle.std.proofs.Common.{rules}
 use Rattle.tables.proofs.records.team_fits.Goals as goal
 
 pub returns-then-team-gt-LAST_TEAM : goal.returns-then-team-gt-LAST_TEAM

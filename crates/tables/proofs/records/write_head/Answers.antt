@@ -1,5 +1,5 @@
 -- `write_head` writes six numbers one after the other, so head is those six.
-use Rattle.std.proofs.Common.{arith, length-set, rules}
+use Rattle.std.proofs.Common.{arith, length-set}
 use Rattle.tables.specs.RecordLaws.{head-written}
 use Rattle.tables.proofs.records.write_head.Goals as goal
 

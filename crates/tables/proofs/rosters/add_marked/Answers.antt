@@ -1,6 +1,5 @@
 -- `add_marked` stores nothing where the byte is 0, and else the car.
 use Rattle.tables.specs.RowLaws.{adds_none, adds_one}
-use Rattle.std.proofs.Common.{rules}
 use Rattle.tables.proofs.rosters.add_marked.Goals as goal
 
 pub returns-then-byte-eq0 : goal.returns-then-byte-eq0

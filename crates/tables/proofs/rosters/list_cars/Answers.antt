@@ -1,8 +1,6 @@
 -- `list_cars` has stored the cars below c whose byte is not 0, lowest first.
-use Rattle.std.proofs.Common.{◌≡◌, ◌-◌, ◌≤◌, arith, rules}
-use Rattle.order.specs.Order.{Wrote}
+use Rattle.std.proofs.Common.{◌≡◌, arith, rules}
 use Rattle.order.specs.BufferLaws.{wrote-length}
-use Rattle.tables.specs.Rows.{row}
 use Rattle.tables.specs.RowLaws.{row-start, row-turn}
 use Rattle.tables.proofs.rosters.list_cars.Goals as goal
 

@@ -1,8 +1,6 @@
-use Rattle.std.proofs.Common.{◌≡◌, ◌-◌, ◌≤◌, arith, rules}
+use Rattle.std.proofs.Common.{◌-◌, ◌≤◌}
 use Rattle.order.specs.Order.{Wrote}
-use Rattle.order.specs.BufferLaws.{wrote-length}
 use Rattle.tables.specs.Rows.{row}
-use Rattle.tables.specs.RowLaws.{row-start, row-turn}
 use Rattle.tables.proofs.rosters.list_cars.Given as goal
 
 abbrev pub invariant-loop-c : goal.invariant-loop-c

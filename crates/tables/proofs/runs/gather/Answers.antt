@@ -1,7 +1,7 @@
 -- `gather` puts the zones of a run one by one: what is left of the run, put into what stands, gives all.
-use Rattle.std.proofs.Common.{◌+◌, ◌-◌, arith, rules}
+use Rattle.std.proofs.Common.{◌+◌, arith, rules}
 use Rattle.order.specs.BufferLaws.{front_length, front-within}
-use Rattle.tables.specs.GatherLaws.{Gathering, gather_none, gather-begins, gather-turns, gather-ends, put-any}
+use Rattle.tables.specs.GatherLaws.{gather_none, gather-begins, gather-turns, gather-ends, put-any}
 use Rattle.tables.specs.Runs.{any}
 use Rattle.tables.proofs.runs.gather.Goals as goal
 

@@ -1,6 +1,5 @@
-use Rattle.std.proofs.Common.{◌+◌, ◌-◌, arith, rules}
-use Rattle.order.specs.BufferLaws.{front_length, front-within}
-use Rattle.tables.specs.GatherLaws.{Gathering, gather_none, gather-begins, gather-turns, gather-ends, put-any}
+use Rattle.std.proofs.Common.{◌-◌}
+use Rattle.tables.specs.GatherLaws.{Gathering}
 use Rattle.tables.specs.Runs.{any}
 use Rattle.tables.proofs.runs.gather.Given as goal
 

@@ -1,8 +1,7 @@
 -- `gather_outside` puts those zones of a run that do not hold a cell, as `gather` puts all.
-use Rattle.std.proofs.Common.{◌+◌, ◌-◌, arith, rules}
+use Rattle.std.proofs.Common.{◌+◌, arith, rules}
 use Rattle.order.specs.BufferLaws.{front_length, front-within}
-use Rattle.tables.specs.Runs.{outside}
-use Rattle.tables.specs.GatherLaws.{Gathering, gather_none, gather-begins, gather-turns, gather-ends}
+use Rattle.tables.specs.GatherLaws.{gather_none, gather-begins, gather-turns, gather-ends}
 use Rattle.tables.proofs.runs.gather_outside.Goals as goal
 
 pub overflow_cast-end : goal.overflow_cast-end

@@ -1,7 +1,6 @@
-use Rattle.std.proofs.Common.{◌+◌, ◌-◌, arith, rules}
-use Rattle.order.specs.BufferLaws.{front_length, front-within}
+use Rattle.std.proofs.Common.{◌-◌}
 use Rattle.tables.specs.Runs.{outside}
-use Rattle.tables.specs.GatherLaws.{Gathering, gather_none, gather-begins, gather-turns, gather-ends}
+use Rattle.tables.specs.GatherLaws.{Gathering}
 use Rattle.tables.proofs.runs.gather_outside.Given as goal
 
 abbrev pub invariant-loop-i : goal.invariant-loop-i

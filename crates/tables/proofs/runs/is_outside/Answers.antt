@@ -1,6 +1,5 @@
 -- `is_outside` asks the rectangle of a zone in the table; one beyond it holds no cell.
 use Rattle.tables.specs.GatherLaws.{outside-beyond, outside-in}
-use Rattle.std.proofs.Common.{rules}
 use Rattle.tables.proofs.runs.is_outside.Goals as goal
 
 pub returns-then-zones-at : goal.returns-then-zones-at

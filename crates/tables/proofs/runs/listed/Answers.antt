@@ -1,5 +1,5 @@
 -- `listed` compares a place's start with the next.
-use Rattle.std.proofs.Common.{refl, rules}
+use Rattle.std.proofs.Common.{refl}
 use Rattle.tables.specs.Runs.{listed_at}
 use Rattle.tables.proofs.runs.listed.Goals as goal
 

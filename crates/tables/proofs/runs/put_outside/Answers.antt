@@ -1,5 +1,5 @@
 -- `put_outside` puts a zone that does not hold the cell, and passes by one that does.
-use Rattle.std.proofs.Common.{sym, ◌∙◌, rules}
+use Rattle.std.proofs.Common.{sym, ◌∙◌}
 use borrow.Author.Tests.{not-true, not-false}
 use Rattle.tables.specs.GatherLaws.{put-passed, put-taken}
 use Rattle.tables.proofs.runs.put_outside.Goals as goal
