@@ -40,7 +40,7 @@ pub answer_line-wrote-requires : goal.answer_line-wrote-requires
 answer_line-wrote-requires c = c.loop-held.invariant.room
 
 pub overflow_add-wrote : goal.overflow_add-wrote
-overflow_add-wrote c = omega (arith, c.answer_line-wrote.ensures.few, c.loop-held.invariant.space, c.loop-held.invariant.wide, c.goes_on.ensures.wide c.loop-held-test.true, c.good.1.1.1.1.1.1.1.1.1.1.0.0)
+overflow_add-wrote c = omega (arith, c.answer_line-wrote.ensures.few, c.loop-held.invariant.space, c.loop-held.invariant.wide, c.goes_on.ensures.wide c.loop-held-test.true)
 
 pub loop-held-smaller : goal.loop-held-smaller
 loop-held-smaller c = omega (arith, c.take_line-taken.ensures.further (omega (arith, c.goes_on.ensures.some c.loop-held-test.true)), c.take_line-taken.ensures.within)
@@ -48,7 +48,7 @@ loop-held-smaller c = omega (arith, c.take_line-taken.ensures.further (omega (ar
 pub loop-held-preserved : goal.loop-held-preserved
 loop-held-preserved c = let inv = c.loop-held.invariant in
     walk-turns inv c.goes_on.ensures c.loop-held-test.true c.take_line-taken.ensures
-    c.answer_line-wrote.auto.out.0
+    c.answer_line-wrote.auto.out
     (record {
       head = c.answer_line-wrote.auto.head ∙ inv.room.head;
       zones = c.answer_line-wrote.auto.zones ∙ inv.room.zones;
@@ -89,7 +89,7 @@ pub shape_of-tallies : goal.shape_of-tallies
 shape_of-tallies c = omega (arith, c.loop-held.invariant.room.tallies, c.requires.room.tallies)
 
 pub shape_of-held : goal.shape_of-held
-shape_of-held c = omega (arith, c.keep_held.auto.0, c.loop-held.invariant.long, c.requires.long)
+shape_of-held c = omega (arith, c.keep_held.auto.held, c.loop-held.invariant.long, c.requires.long)
 
 pub shape_of-out : goal.shape_of-out
 shape_of-out c = omega (arith, c.loop-held.invariant.wide)
