@@ -10,6 +10,7 @@ pub enum Number {
 }
 
 // A byte's value as a digit, 16 where it is none.
+#[tactic(auto, unfolding(crate::specs::Grammar::digit_of))]
 fn digit(byte: u8) -> u64
     ensures { result ≡ digit_of byte }
 {
@@ -46,6 +47,7 @@ fn read_digits(field: &[u8], base: u64) -> Number
     Number::Value(n)
 }
 
+#[tactic(auto, using(crate::proofs::Decimals::zero_alone), unfolding(crate::specs::Grammar::decimal))]
 fn read_decimal(field: &[u8]) -> Number
     ensures { result ≡ decimal field.now }
 {
