@@ -1,6 +1,5 @@
 -- `clear_tally` sets a zone's numbers to 0: the part lent is its row.
 use Rattle.tallies.specs.CountLaws.{row-cleared}
-use Rattle.std.proofs.Common.{rules}
 use Rattle.tallies.proofs.counts.clear_tally.Goals as goal
 
 pub returns : goal.returns

@@ -1,6 +1,6 @@
 -- `count_cars` counts car by car from 0 on, and works the holder out at the end.
-use Rattle.std.proofs.Common.{ℕ, ◌-◌, replicate, ap, ◌∙◌, rules}
-use Rattle.tallies.specs.CountLaws.{Totals, totals-none, totals-more, totals-settled}
+use Rattle.std.proofs.Common.{ℕ, replicate, ap, ◌∙◌}
+use Rattle.tallies.specs.CountLaws.{totals-none, totals-more, totals-settled}
 use Rattle.tallies.proofs.counts.count_cars.Goals as goal
 
 pub loop-c-init : goal.loop-c-init

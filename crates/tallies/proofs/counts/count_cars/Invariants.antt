@@ -1,5 +1,5 @@
-use Rattle.std.proofs.Common.{ℕ, ◌-◌, replicate, ap, ◌∙◌, rules}
-use Rattle.tallies.specs.CountLaws.{Totals, totals-none, totals-more, totals-settled}
+use Rattle.std.proofs.Common.{◌-◌}
+use Rattle.tallies.specs.CountLaws.{Totals}
 use Rattle.tallies.proofs.counts.count_cars.Given as goal
 
 abbrev pub invariant-loop-c : goal.invariant-loop-c

@@ -1,6 +1,5 @@
 -- `fill_tally` counts a zone's cars: the part lent is its row.
 use Rattle.tallies.specs.CountLaws.{row-counted}
-use Rattle.std.proofs.Common.{rules}
 use Rattle.tallies.proofs.counts.fill_tally.Goals as goal
 
 pub returns : goal.returns

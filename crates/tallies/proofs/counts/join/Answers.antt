@@ -1,6 +1,5 @@
 -- `join` counts a car where its byte is not 0, and else changes nothing.
 use Rattle.tallies.specs.CountLaws.{join_one, join-none}
-use Rattle.std.proofs.Common.{rules}
 use Rattle.tallies.proofs.counts.join.Goals as goal
 
 pub returns-then-byte-ne0 : goal.returns-then-byte-ne0

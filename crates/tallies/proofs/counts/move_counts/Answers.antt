@@ -1,6 +1,5 @@
 -- `move_counts` turns zone after zone: what is left of the list is still to be turned.
-use Rattle.std.proofs.Common.{◌-◌, length, rules}
-use Rattle.tallies.specs.CountLaws.{Moving, move-begins, move-turns, move-ends}
+use Rattle.tallies.specs.CountLaws.{move-begins, move-turns, move-ends}
 use Rattle.tallies.proofs.counts.move_counts.Goals as goal
 
 pub loop-i-init : goal.loop-i-init

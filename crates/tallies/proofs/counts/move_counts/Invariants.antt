@@ -1,5 +1,5 @@
-use Rattle.std.proofs.Common.{◌-◌, length, rules}
-use Rattle.tallies.specs.CountLaws.{Moving, move-begins, move-turns, move-ends}
+use Rattle.std.proofs.Common.{◌-◌, length}
+use Rattle.tallies.specs.CountLaws.{Moving}
 use Rattle.tallies.proofs.counts.move_counts.Given as goal
 
 abbrev pub invariant-loop-i : goal.invariant-loop-i

@@ -1,6 +1,5 @@
 -- `raise` adds to the count and to a team's.
 use Rattle.tallies.specs.CountLaws.{raise-both}
-use Rattle.std.proofs.Common.{rules}
 use Rattle.tallies.proofs.counts.raise.Goals as goal
 
 pub returns : goal.returns

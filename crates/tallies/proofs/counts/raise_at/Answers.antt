@@ -1,5 +1,5 @@
 -- `raise_at` adds to one number of a row.
-use Rattle.std.proofs.Common.{set, ap, rules}
+use Rattle.std.proofs.Common.{set, ap}
 use Rattle.tallies.proofs.counts.raise_at.Goals as goal
 
 pub returns : goal.returns

@@ -1,6 +1,5 @@
 -- `settle` writes the team that leads.
 use Rattle.tallies.specs.CountLaws.{settle-one}
-use Rattle.std.proofs.Common.{rules}
 use Rattle.tallies.proofs.counts.settle.Goals as goal
 
 pub returns : goal.returns

@@ -1,6 +1,5 @@
 -- `turn` moves the counts of a row, and then its holder, unless the car is a spectator's.
 use Rattle.tallies.specs.CountLaws.{swing-team, swing-none}
-use Rattle.std.proofs.Common.{rules}
 use Rattle.tallies.proofs.counts.turn.Goals as goal
 
 pub returns-then-g-gt0 : goal.returns-then-g-gt0

@@ -1,6 +1,5 @@
 -- `turn_zone` turns a zone's row where it is there, and else changes nothing.
 use Rattle.tallies.specs.CountLaws.{turn-there, turn-away}
-use Rattle.std.proofs.Common.{rules}
 use Rattle.tallies.proofs.counts.turn_zone.Goals as goal
 
 pub returns-then-end-tallies : goal.returns-then-end-tallies

@@ -1,5 +1,5 @@
 -- `holder_in` joins the leads of the seven teams, two ranges side by side at a time.
-use Rattle.std.proofs.Common.{arith, rules}
+use Rattle.std.proofs.Common.{arith}
 use Rattle.tallies.specs.HolderLaws.{front-join, front-all, row_one}
 use Rattle.tallies.proofs.holder.holder_in.Goals as goal
 
