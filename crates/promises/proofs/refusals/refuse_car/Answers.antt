@@ -4,11 +4,10 @@ use mathlib.Core.Path.{◌≡◌, ◌∙◌}
 use native.Mathlib.Omega.{arith}
 use Rattle.squares.specs.RefusalLaws.{stops, holds, fails, below, beyond}
 use Rattle.model.specs.Model.{meaning}
-use Rattle.tables.specs.Tables.{Tables, tables}
+use Rattle.tables.specs.Tables.{tables}
 use Rattle.tables.specs.Check.{sized}
 use Rattle.tables.specs.CheckLaws.{sized→}
 use Rattle.tables.specs.RecordLaws.{car-known}
-use borrow.Author.Rules.{rules}
 use Rattle.promises.proofs.refusals.refuse_car.Goals as goal
 
 pub returns-then-not-sized : goal.returns-then-not-sized
