@@ -9,6 +9,8 @@ use Rattle.pieces.specs.Pieces.{held_in, holding}
 use Rattle.replay.specs.Run.{after_lines}
 use Rattle.pieces.specs.declared.pieces.Filling.{Filling}
 use Rattle.pieces.specs.declared.pieces.Filling.TheVariants.{Refused, Done}
+use Rattle.run_log.specs.declared.Ending.{Ending}
+use Rattle.run_log.specs.declared.Ending.TheVariants.{Answered, Unread, Unwritten}
 use Rattle.run_log.specs.declared.Moved.{Moved}
 use Rattle.run_log.specs.declared.Moved.TheVariants.{Failed, Ended, Bytes}
 
@@ -42,3 +44,9 @@ abbrev pub Put : Filling → Moved → Type 0
 Put filling Failed = Unit {0}
 Put filling Ended = ⊥
 Put filling (Bytes n) = (wrote : ℕ) × (filling ≡ Done n wrote)
+
+-- the status that a run ends with: 0 where it came to the input's end and all answers were written
+abbrev pub status_of : Ending → ℕ
+status_of Answered = 0
+status_of Unread = 1
+status_of Unwritten = 1

@@ -3,7 +3,8 @@
 
 ghost use Rattle.std.specs.Prelude.{◌<◌, ◌≤◌, ◌≡◌, length};
 ghost use Rattle.tables.specs.Lent.{lent, given, as_written};
-ghost use Rattle.run_log.specs.Carried.{many_of, Filled, Put, Carries, Carried};
+ghost use Rattle.std.specs.Process.{exit_status};
+ghost use Rattle.run_log.specs.Carried.{many_of, Filled, Put, Carries, Carried, status_of};
 
 use pieces::Filling;
 use replay::{answer_end, answer_piece};
@@ -192,7 +193,9 @@ fn turns_left(turns: u64, read: usize, written: bool) -> u64
 }
 
 // Says on standard error why a run stopped. The status is 0 where it came to its end.
-fn tell(rt: &impl Eprint, ending: Ending, reason: Option<io::Error>) -> ExitCode {
+fn tell(rt: &impl Eprint, ending: Ending, reason: Option<io::Error>) -> ExitCode
+    ensures { exit_status result ≡ status_of ending }
+{
     let what = match ending {
         Ending::Answered => return ExitCode::SUCCESS,
         Ending::Unread => "the input cannot be read; a line that has not ended is not carried out",
