@@ -3,7 +3,7 @@
 #![tactic(auto)]
 
 mod whole; // whole.rt: the whole case of the log
-mod rides; // rides.rt: zones that ride
+mod ride_cases; // ride_cases.rt: zones that ride
 mod small; // small.rt: a small town, sound and then with one number wrong at a time
 
 use grid::{CutOf, NumberOf, SquareOf};
@@ -353,5 +353,5 @@ fn main(rt: HostRuntime) {
     walls(&rt, Shape { k: 2, P: 3, Q: 2 });
     small::small_town(&rt);
     whole::whole_case(&rt, town);
-    rides::ride_case(&rt, Shape { k: 1, P: 4, Q: 2 });
+    ride_cases::ride_case(&rt, Shape { k: 1, P: 4, Q: 2 });
 }

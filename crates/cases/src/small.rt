@@ -1,5 +1,5 @@
 // A small town: opened, then with a zone and a car written by hand, then with one number wrong at a time; and rides in it.
-use crate::rides::ride_by;
+use crate::ride_cases::ride_by;
 use crate::{bracket, end, number, say_holder, say_scoring, text};
 use model::{CountOf, Opened, RosterOf, Searched, SoundnessOf, WhereIs};
 use position::{Position, Spot, float_of};

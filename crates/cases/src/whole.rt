@@ -1,6 +1,6 @@
 // The whole case of the log, run through the calls: what each line asks and answers, and whether the tables are sound.
 // Each list is shown with the 7s that stood in its buffer.
-use crate::rides::ride;
+use crate::ride_cases::ride;
 use crate::{bracket, end, number, say_holder, say_scoring, text};
 use model::{Added, CountOf, Left, Opened, Removed, Reported, RosterOf, SoundnessOf};
 use position::{Position, float_of};

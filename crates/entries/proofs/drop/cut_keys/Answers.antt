@@ -1,5 +1,5 @@
 -- `cut_keys` takes a zone's keys out: written, found and cut out, the starts after them lowered, those under them counted anew.
-use Rattle.std.proofs.Common.{arith, rules}
+use Rattle.std.proofs.Common.{arith}
 use Rattle.order.specs.BufferLaws.{count-front}
 use Rattle.entries.specs.FrontLaws.{front-few}
 use Rattle.entries.specs.KeyLaws.{cut-few}

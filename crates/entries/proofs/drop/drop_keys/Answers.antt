@@ -1,5 +1,5 @@
 -- `drop_keys` takes a zone's keys out, in one pass or one by one; where the tables are not right it may leave them.
-use Rattle.std.proofs.Common.{◌-◌, length, arith, rules}
+use Rattle.std.proofs.Common.{◌-◌, length, arith}
 use Rattle.squares.specs.Bounds.{Fits}
 use Rattle.squares.specs.ShapeLaws.{fits→, →fits}
 use Rattle.squares.specs.RefusalLaws.{holds, fails}

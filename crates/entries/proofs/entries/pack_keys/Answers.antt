@@ -1,6 +1,6 @@
 -- `pack_keys` moves the keys of other zones to the front and the starts after each key of zone z down by one more.
-use Rattle.std.proofs.Common.{◌-◌, length, arith, rules}
-use Rattle.entries.specs.DropLaws.{Dropping, drop-begins, drop-takes, drop-skips, drop-ends}
+use Rattle.std.proofs.Common.{arith}
+use Rattle.entries.specs.DropLaws.{drop-begins, drop-takes, drop-skips, drop-ends}
 use Rattle.entries.proofs.entries.pack_keys.Goals as goal
 
 pub loop-i-init : goal.loop-i-init

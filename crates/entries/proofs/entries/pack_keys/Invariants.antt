@@ -1,5 +1,5 @@
-use Rattle.std.proofs.Common.{◌-◌, length, arith, rules}
-use Rattle.entries.specs.DropLaws.{Dropping, drop-begins, drop-takes, drop-skips, drop-ends}
+use Rattle.std.proofs.Common.{◌-◌, length}
+use Rattle.entries.specs.DropLaws.{Dropping}
 use Rattle.entries.proofs.entries.pack_keys.Given as goal
 
 abbrev pub invariant-loop-i : goal.invariant-loop-i

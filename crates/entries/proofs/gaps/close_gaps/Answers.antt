@@ -1,6 +1,6 @@
 -- `close_gaps` takes the keys out one by one: what lies between two of them moves down by how many are gone.
-use Rattle.std.proofs.Common.{◌-◌, refl, arith, rules}
-use Rattle.entries.specs.GapLaws.{Closing, close-begins, slide-room, found_within, close-stops, close-turns, close-ends}
+use Rattle.std.proofs.Common.{refl, arith}
+use Rattle.entries.specs.GapLaws.{close-begins, slide-room, found_within, close-stops, close-turns, close-ends}
 use Rattle.entries.proofs.gaps.close_gaps.Goals as goal
 
 pub loop-gone-init : goal.loop-gone-init

@@ -1,5 +1,5 @@
-use Rattle.std.proofs.Common.{◌-◌, refl, arith, rules}
-use Rattle.entries.specs.GapLaws.{Closing, close-begins, slide-room, found_within, close-stops, close-turns, close-ends}
+use Rattle.std.proofs.Common.{◌-◌}
+use Rattle.entries.specs.GapLaws.{Closing}
 use Rattle.entries.proofs.gaps.close_gaps.Given as goal
 
 abbrev pub invariant-loop-gone : goal.invariant-loop-gone

@@ -1,6 +1,5 @@
 -- `find_key` passes over what the start of the key's place counts, and counts on from there.
 use Rattle.entries.specs.GapLaws.{found}
-use Rattle.std.proofs.Common.{rules}
 use Rattle.entries.proofs.gaps.find_key.Goals as goal
 
 pub returns : goal.returns

@@ -1,6 +1,6 @@
 -- `move_down` moves the numbers of one range down one by one: those passed stand so many places lower.
-use Rattle.std.proofs.Common.{◌-◌, arith, rules}
-use Rattle.entries.specs.GapLaws.{Sliding, slide-begins, slide-long, slide-turns, slide-ends, slide-still}
+use Rattle.std.proofs.Common.{arith}
+use Rattle.entries.specs.GapLaws.{slide-begins, slide-long, slide-turns, slide-ends, slide-still}
 use Rattle.entries.proofs.gaps.move_down.Goals as goal
 
 pub returns-then-by-eq0 : goal.returns-then-by-eq0

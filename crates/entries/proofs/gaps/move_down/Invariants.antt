@@ -1,5 +1,5 @@
-use Rattle.std.proofs.Common.{◌-◌, arith, rules}
-use Rattle.entries.specs.GapLaws.{Sliding, slide-begins, slide-long, slide-turns, slide-ends, slide-still}
+use Rattle.std.proofs.Common.{◌-◌}
+use Rattle.entries.specs.GapLaws.{Sliding}
 use Rattle.entries.proofs.gaps.move_down.Given as goal
 
 abbrev pub invariant-loop-i : goal.invariant-loop-i

@@ -1,5 +1,5 @@
 -- `add_keys` adds a zone's keys: written, merged, the starts after them raised, those under them counted anew.
-use Rattle.std.proofs.Common.{arith, rules}
+use Rattle.std.proofs.Common.{arith}
 use Rattle.order.specs.BufferLaws.{count-front}
 use Rattle.entries.specs.FrontLaws.{front-few}
 use Rattle.entries.specs.KeyLaws.{cut-few, merge-room, keys-added}

@@ -1,5 +1,5 @@
 -- `code_key` is the key of a square's place: it fits in 32 bits.
-use Rattle.std.proofs.Common.{arith, rules}
+use Rattle.std.proofs.Common.{arith}
 use Rattle.squares.specs.ShapeLaws.{squares-few}
 use Rattle.entries.proofs.keys.code_key.Goals as goal
 

@@ -1,8 +1,7 @@
 -- `key_codes` turns squares into keys one by one.
-use Rattle.std.proofs.Common.{◌-◌, length, ap, ◌∙◌, arith, rules}
-use Rattle.order.specs.SetLaws.{Setting, set-begins, set_next, set-turns, set-ends, map_each}
+use Rattle.std.proofs.Common.{ap, ◌∙◌, arith}
+use Rattle.order.specs.SetLaws.{set-begins, set_next, set-turns, set-ends, map_each}
 use Rattle.entries.specs.Keys.{code_key}
-use Rattle.entries.specs.KeyLaws.{key_at}
 use Rattle.entries.proofs.keys.key_codes.Goals as goal
 
 pub loop-i-init : goal.loop-i-init

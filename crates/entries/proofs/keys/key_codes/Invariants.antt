@@ -1,6 +1,5 @@
-use Rattle.std.proofs.Common.{◌-◌, length, ap, ◌∙◌, arith, rules}
-use Rattle.order.specs.SetLaws.{Setting, set-begins, set_next, set-turns, set-ends, map_each}
-use Rattle.entries.specs.Keys.{code_key}
+use Rattle.std.proofs.Common.{◌-◌, length}
+use Rattle.order.specs.SetLaws.{Setting}
 use Rattle.entries.specs.KeyLaws.{key_at}
 use Rattle.entries.proofs.keys.key_codes.Given as goal
 

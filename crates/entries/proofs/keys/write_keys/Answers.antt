@@ -1,7 +1,6 @@
 -- `write_keys` writes the cut to the front of a buffer, and turns its squares into keys there.
 use Rattle.order.specs.BufferLaws.{count-front}
 use Rattle.entries.specs.KeyLaws.{keys-fit, codes-there, keys-written}
-use Rattle.std.proofs.Common.{rules}
 use Rattle.entries.proofs.keys.write_keys.Goals as goal
 
 pub slice_bounds-key_codes-end : goal.slice_bounds-key_codes-end

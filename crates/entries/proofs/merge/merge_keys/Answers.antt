@@ -1,6 +1,6 @@
 -- `merge_keys` merges from the back: what is merged stands after what is still to be merged.
-use Rattle.std.proofs.Common.{◌≤◌, take, arith, rules}
-use Rattle.entries.specs.MergeLaws.{Merging, merge-begins, merge-turns, merge-ends}
+use Rattle.std.proofs.Common.{arith, rules}
+use Rattle.entries.specs.MergeLaws.{merge-begins, merge-turns, merge-ends}
 use Rattle.entries.proofs.merge.merge_keys.Goals as goal
 
 pub loop-j-init : goal.loop-j-init

@@ -1,5 +1,5 @@
-use Rattle.std.proofs.Common.{◌≤◌, take, arith, rules}
-use Rattle.entries.specs.MergeLaws.{Merging, merge-begins, merge-turns, merge-ends}
+use Rattle.std.proofs.Common.{◌≤◌, take}
+use Rattle.entries.specs.MergeLaws.{Merging}
 use Rattle.entries.proofs.merge.merge_keys.Given as goal
 
 abbrev pub invariant-loop-j : goal.invariant-loop-j

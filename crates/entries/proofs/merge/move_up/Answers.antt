@@ -1,6 +1,5 @@
 -- `move_up` has moved the numbers from i up to the end: moving the others leaves what moving all does.
-use Rattle.std.proofs.Common.{◌≡◌, ◌-◌, ◌≤◌, length, sym, refl, ◌∙◌, arith, rules}
-use Rattle.entries.specs.Merge.{moved_up}
+use Rattle.std.proofs.Common.{sym, refl, ◌∙◌, arith, rules}
 use Rattle.entries.specs.MergeLaws.{moved_more, moved_all}
 use Rattle.entries.proofs.merge.move_up.Goals as goal
 

@@ -1,6 +1,5 @@
-use Rattle.std.proofs.Common.{◌≡◌, ◌-◌, ◌≤◌, length, sym, refl, ◌∙◌, arith, rules}
+use Rattle.std.proofs.Common.{◌≡◌, ◌-◌, ◌≤◌, length}
 use Rattle.entries.specs.Merge.{moved_up}
-use Rattle.entries.specs.MergeLaws.{moved_more, moved_all}
 use Rattle.entries.proofs.merge.move_up.Given as goal
 
 abbrev pub invariant-loop-i : goal.invariant-loop-i

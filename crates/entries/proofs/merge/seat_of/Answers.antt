@@ -1,8 +1,7 @@
 -- `seat_of` passes entries that are not below the key, from the limit down.
-use Rattle.std.proofs.Common.{◌≡◌, ℕ, false, sym, ap, ◌∙◌, arith, rules}
+use Rattle.std.proofs.Common.{◌≡◌, ℕ, false, sym, ap, ◌∙◌, arith}
 use borrow.Author.Tests.{not-true, not-false}
 use Rattle.order.specs.Buffer.{ends_below}
-use Rattle.entries.specs.Merge.{Limit}
 use Rattle.entries.specs.MergeLaws.{ends-not→, limit-turns}
 use Rattle.entries.proofs.merge.seat_of.Goals as goal
 

@@ -1,8 +1,4 @@
-use Rattle.std.proofs.Common.{◌≡◌, ℕ, false, sym, ap, ◌∙◌, arith, rules}
-use borrow.Author.Tests.{not-true, not-false}
-use Rattle.order.specs.Buffer.{ends_below}
 use Rattle.entries.specs.Merge.{Limit}
-use Rattle.entries.specs.MergeLaws.{ends-not→, limit-turns}
 use Rattle.entries.proofs.merge.seat_of.Given as goal
 
 abbrev pub invariant-loop-i : goal.invariant-loop-i

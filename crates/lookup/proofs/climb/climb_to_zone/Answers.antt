@@ -1,8 +1,6 @@
 -- `climb_to_zone` has found no zone on the lists below, and stands at the place of the next square up.
-use Prim.Native.Nat.{suc, ◌-◌}
 use native.Mathlib.Omega.{arith}
-use Rattle.lookup.specs.ClimbLaws.{Climbing, climb-begins, climb-start, climb-turns, climb-found, climb-ended}
-use borrow.Author.Rules.{rules}
+use Rattle.lookup.specs.ClimbLaws.{climb-begins, climb-start, climb-turns, climb-found, climb-ended}
 use Rattle.lookup.proofs.climb.climb_to_zone.Goals as goal
 
 pub number-requires : goal.number-requires

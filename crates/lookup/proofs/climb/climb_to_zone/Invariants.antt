@@ -1,7 +1,5 @@
 use Prim.Native.Nat.{suc, ◌-◌}
-use native.Mathlib.Omega.{arith}
-use Rattle.lookup.specs.ClimbLaws.{Climbing, climb-begins, climb-start, climb-turns, climb-found, climb-ended}
-use borrow.Author.Rules.{rules}
+use Rattle.lookup.specs.ClimbLaws.{Climbing}
 use Rattle.lookup.proofs.climb.climb_to_zone.Given as goal
 
 abbrev pub invariant-loop-s : goal.invariant-loop-s

@@ -1,10 +1,9 @@
 -- `cross` has gathered from the squares of both cells on the levels below, and goes up as long as they differ.
-use Prim.Native.Nat.{◌-◌}
 use native.Mathlib.Nat.{le_refl}
 use native.Mathlib.Omega.{arith}
 use Rattle.order.specs.BufferLaws.{front_length, front-within}
 use Rattle.squares.specs.Leaves.{OnLevel}
-use Rattle.lookup.specs.LookLaws.{Crossing, cross-begins, cross-few, cross-old, cross-new, cross-turns, cross-ends}
+use Rattle.lookup.specs.LookLaws.{cross-begins, cross-few, cross-old, cross-new, cross-turns, cross-ends}
 use borrow.Author.Rules.{rules}
 use Rattle.lookup.proofs.looks.cross.Goals as goal
 

@@ -1,10 +1,5 @@
 use Prim.Native.Nat.{◌-◌}
-use native.Mathlib.Nat.{le_refl}
-use native.Mathlib.Omega.{arith}
-use Rattle.order.specs.BufferLaws.{front_length, front-within}
-use Rattle.squares.specs.Leaves.{OnLevel}
-use Rattle.lookup.specs.LookLaws.{Crossing, cross-begins, cross-few, cross-old, cross-new, cross-turns, cross-ends}
-use borrow.Author.Rules.{rules}
+use Rattle.lookup.specs.LookLaws.{Crossing}
 use Rattle.lookup.proofs.looks.cross.Given as goal
 
 abbrev pub invariant-loop-up : goal.invariant-loop-up

@@ -1,11 +1,9 @@
 -- `look_up` has gathered the zones of the squares looked into, and stands at the place of the next one up.
-use Prim.Native.Nat.{suc, ◌-◌}
 use native.Mathlib.Nat.{le_refl}
 use native.Mathlib.Omega.{arith}
 use Rattle.order.specs.BufferLaws.{front_length, front-within}
 use Rattle.squares.specs.Leaves.{OnLevel}
-use Rattle.lookup.specs.LookLaws.{Looking, look-begins, look-start, look-turns, look-ends}
-use borrow.Author.Rules.{rules}
+use Rattle.lookup.specs.LookLaws.{look-begins, look-start, look-turns, look-ends}
 use Rattle.lookup.proofs.looks.look_up.Goals as goal
 
 pub number-requires : goal.number-requires

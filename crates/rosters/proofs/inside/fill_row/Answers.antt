@@ -3,7 +3,6 @@ use mathlib.Core.Path.{◌≡◌, ap₂, ◌∙◌}
 use Rattle.tables.specs.Slots.{car_between}
 use Rattle.rosters.specs.Inside.{car_within}
 use Rattle.rosters.specs.InsideLaws.{by-bands, row-marked}
-use borrow.Author.Rules.{rules}
 use Rattle.rosters.proofs.inside.fill_row.Goals as goal
 
 pub returns : goal.returns

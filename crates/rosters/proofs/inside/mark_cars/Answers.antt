@@ -1,9 +1,6 @@
 -- `mark_cars` sets the bytes of a row car by car, and counts those that pass.
-use Prim.Native.Nat.{◌-◌}
 use native.Mathlib.Omega.{arith}
-use Rattle.tables.specs.Slots.{car_between}
-use Rattle.rosters.specs.InsideLaws.{Marking, mark-begins, mark-turns, mark-ends}
-use borrow.Author.Rules.{rules}
+use Rattle.rosters.specs.InsideLaws.{mark-begins, mark-turns, mark-ends}
 use Rattle.rosters.proofs.inside.mark_cars.Goals as goal
 
 pub loop-c-init : goal.loop-c-init

@@ -1,8 +1,6 @@
 use Prim.Native.Nat.{◌-◌}
-use native.Mathlib.Omega.{arith}
 use Rattle.tables.specs.Slots.{car_between}
-use Rattle.rosters.specs.InsideLaws.{Marking, mark-begins, mark-turns, mark-ends}
-use borrow.Author.Rules.{rules}
+use Rattle.rosters.specs.InsideLaws.{Marking}
 use Rattle.rosters.proofs.inside.mark_cars.Given as goal
 
 abbrev pub invariant-loop-c : goal.invariant-loop-c

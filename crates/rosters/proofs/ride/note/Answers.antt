@@ -1,6 +1,5 @@
 -- `note` stores nothing where the byte is 0, nor where the other is not, and else the car.
 use Rattle.rosters.specs.RiddenLaws.{notes-unmarked, notes-marked, notes-one}
-use borrow.Author.Rules.{rules}
 use Rattle.rosters.proofs.ride.note.Goals as goal
 
 pub returns-then-byte-eq0 : goal.returns-then-byte-eq0

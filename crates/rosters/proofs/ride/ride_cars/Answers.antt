@@ -1,10 +1,7 @@
 -- `ride_cars` sets the bytes of a row car by car, and stores the cars that come and those that go.
-use Prim.Native.Nat.{◌-◌}
 use native.Mathlib.Omega.{arith}
 use Rattle.order.specs.BufferLaws.{wrote-length}
-use Rattle.tables.specs.Slots.{car_between}
-use Rattle.rosters.specs.RiddenLaws.{Riding, ride-begins, ride-turns, ride-ends}
-use borrow.Author.Rules.{rules}
+use Rattle.rosters.specs.RiddenLaws.{ride-begins, ride-turns, ride-ends}
 use Rattle.rosters.proofs.ride.ride_cars.Goals as goal
 
 pub loop-c-init : goal.loop-c-init

@@ -1,9 +1,6 @@
 use Prim.Native.Nat.{◌-◌}
-use native.Mathlib.Omega.{arith}
-use Rattle.order.specs.BufferLaws.{wrote-length}
 use Rattle.tables.specs.Slots.{car_between}
-use Rattle.rosters.specs.RiddenLaws.{Riding, ride-begins, ride-turns, ride-ends}
-use borrow.Author.Rules.{rules}
+use Rattle.rosters.specs.RiddenLaws.{Riding}
 use Rattle.rosters.proofs.ride.ride_cars.Given as goal
 
 abbrev pub invariant-loop-c : goal.invariant-loop-c

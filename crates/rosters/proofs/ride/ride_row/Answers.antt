@@ -4,7 +4,6 @@ use Rattle.tables.specs.Slots.{car_between}
 use Rattle.rosters.specs.Inside.{car_within}
 use Rattle.rosters.specs.InsideLaws.{by-bands}
 use Rattle.rosters.specs.RiddenLaws.{row-ridden}
-use borrow.Author.Rules.{rules}
 use Rattle.rosters.proofs.ride.ride_row.Goals as goal
 
 pub returns : goal.returns

@@ -1,6 +1,5 @@
 -- `turn` notes nothing where the byte stays, and else by what the two bytes are.
 use Rattle.rosters.specs.RiddenLaws.{turns-none}
-use borrow.Author.Rules.{rules}
 use Rattle.rosters.proofs.ride.turn.Goals as goal
 
 pub returns-then-byte-old : goal.returns-then-byte-old

@@ -1,7 +1,6 @@
 -- `byte_at` is the place of a car's byte: the product and the sum fit.
 use native.Mathlib.Omega.{arith}
 use native.Mathlib.Nat.{mul-le-mul, le_refl}
-use borrow.Author.Rules.{rules}
 use Rattle.rosters.proofs.rows.byte_at.Goals as goal
 
 pub overflow_mul-result : goal.overflow_mul-result

@@ -1,6 +1,5 @@
 -- `clear_row` sets a zone's row to 0: the part lent is the row.
 use Rattle.rosters.specs.RosterLaws.{row-filled}
-use borrow.Author.Rules.{rules}
 use Rattle.rosters.proofs.rows.clear_row.Goals as goal
 
 pub returns : goal.returns

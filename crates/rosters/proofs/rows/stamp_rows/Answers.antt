@@ -1,8 +1,5 @@
 -- `stamp_rows` sets a car's byte zone by zone: what is left of the list is still to be set.
-use Prim.Native.Nat.{◌-◌}
-use lib.ListN.{length}
-use Rattle.rosters.specs.RosterLaws.{Stamping, stamp-begins, stamp-turns, stamp-ends}
-use borrow.Author.Rules.{rules}
+use Rattle.rosters.specs.RosterLaws.{stamp-begins, stamp-turns, stamp-ends}
 use Rattle.rosters.proofs.rows.stamp_rows.Goals as goal
 
 pub loop-i-init : goal.loop-i-init

@@ -1,7 +1,6 @@
 use Prim.Native.Nat.{◌-◌}
 use lib.ListN.{length}
-use Rattle.rosters.specs.RosterLaws.{Stamping, stamp-begins, stamp-turns, stamp-ends}
-use borrow.Author.Rules.{rules}
+use Rattle.rosters.specs.RosterLaws.{Stamping}
 use Rattle.rosters.proofs.rows.stamp_rows.Given as goal
 
 abbrev pub invariant-loop-i : goal.invariant-loop-i

@@ -4,7 +4,6 @@ use mathlib.Core.Path.{◌∙◌}
 use Rattle.soundness.specs.Tests.{InTown}
 use Rattle.soundness.specs.ZoneLaws.{zone-fits}
 use Rattle.soundness.specs.EntryLaws.{key-past, key-none, key-down, key-cut}
-use borrow.Author.Rules.{rules}
 use Rattle.soundness.proofs.entry.key_right.Goals as goal
 
 pub returns-then-squares-p : goal.returns-then-squares-p

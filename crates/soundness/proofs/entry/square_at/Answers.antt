@@ -1,7 +1,6 @@
 -- `square_at`: down the levels, each level's squares taken off the place, until the rest is a number of the level.
-use Prim.Native.Nat.{◌-◌}
 use Rattle.squares.specs.ShapeLaws.{blocks-small}
-use Rattle.soundness.specs.EntryLaws.{Walked, walk_begins, walk-turns, walk-found, walk_ends}
+use Rattle.soundness.specs.EntryLaws.{walk_begins, walk-turns, walk-found, walk_ends}
 use borrow.Author.Rules.{rules}
 use Rattle.soundness.proofs.entry.square_at.Goals as goal
 

@@ -1,7 +1,5 @@
 use Prim.Native.Nat.{◌-◌}
-use Rattle.squares.specs.ShapeLaws.{blocks-small}
-use Rattle.soundness.specs.EntryLaws.{Walked, walk_begins, walk-turns, walk-found, walk_ends}
-use borrow.Author.Rules.{rules}
+use Rattle.soundness.specs.EntryLaws.{Walked}
 use Rattle.soundness.proofs.entry.square_at.Given as goal
 
 abbrev pub invariant-loop-level : goal.invariant-loop-level

@@ -1,6 +1,5 @@
 -- `cut_size`: a zone that does not stand has no entries, one that stands as many as its cut has squares.
 use Rattle.soundness.specs.ZoneLaws.{zone-fits, size-down, size-up}
-use borrow.Author.Rules.{rules}
 use Rattle.soundness.proofs.lists.cut_size.Goals as goal
 
 pub returns-then-r-eq0 : goal.returns-then-r-eq0

@@ -1,7 +1,5 @@
 -- `cut_sizes`: the loop has added up the entries of the zones passed.
-use Prim.Native.Nat.{◌-◌}
-use Rattle.soundness.specs.ZoneLaws.{Summed, summed-none, summed-more, summed-end}
-use borrow.Author.Rules.{rules}
+use Rattle.soundness.specs.ZoneLaws.{summed-none, summed-more, summed-end}
 use Rattle.soundness.proofs.lists.cut_sizes.Goals as goal
 
 pub loop-z-init : goal.loop-z-init

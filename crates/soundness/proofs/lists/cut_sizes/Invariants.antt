@@ -1,6 +1,5 @@
 use Prim.Native.Nat.{◌-◌}
-use Rattle.soundness.specs.ZoneLaws.{Summed, summed-none, summed-more, summed-end}
-use borrow.Author.Rules.{rules}
+use Rattle.soundness.specs.ZoneLaws.{Summed}
 use Rattle.soundness.proofs.lists.cut_sizes.Given as goal
 
 abbrev pub invariant-loop-z : goal.invariant-loop-z

@@ -5,7 +5,6 @@ use mathlib.Core.Bool.{true}
 use borrow.Author.Tests.{not-true, not-false}
 use Rattle.soundness.specs.Tests.{every, rises_at, right_at}
 use Rattle.soundness.specs.SweepLaws.{entries-many, entries-fall, entries-wrong, entries-lack, entries-rest}
-use borrow.Author.Rules.{rules}
 use Rattle.soundness.proofs.lists.entries_right.Goals as goal
 
 pub returns-then-entries-u : goal.returns-then-entries-u

@@ -1,10 +1,6 @@
 -- `frees`: each entry passed is the free mark.
-use Prim.Native.Nat.{◌-◌}
-use lib.ListN.{length}
 use borrow.Author.Tests.{eq-eqb, ne_eqb}
-use Rattle.soundness.specs.Tests.{free_at}
-use Rattle.soundness.specs.EveryLaws.{Passed, passed_none, passed-more, passed-end, passed-stop}
-use borrow.Author.Rules.{rules}
+use Rattle.soundness.specs.EveryLaws.{passed_none, passed-more, passed-end, passed-stop}
 use Rattle.soundness.proofs.lists.frees.Goals as goal
 
 pub loop-i-init : goal.loop-i-init

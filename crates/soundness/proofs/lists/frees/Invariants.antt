@@ -1,9 +1,7 @@
 use Prim.Native.Nat.{◌-◌}
 use lib.ListN.{length}
-use borrow.Author.Tests.{eq-eqb, ne_eqb}
 use Rattle.soundness.specs.Tests.{free_at}
-use Rattle.soundness.specs.EveryLaws.{Passed, passed_none, passed-more, passed-end, passed-stop}
-use borrow.Author.Rules.{rules}
+use Rattle.soundness.specs.EveryLaws.{Passed}
 use Rattle.soundness.proofs.lists.frees.Given as goal
 
 abbrev pub invariant-loop-i : goal.invariant-loop-i

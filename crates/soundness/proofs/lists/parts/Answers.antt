@@ -2,7 +2,6 @@
 use mathlib.Core.Path.{sym, ◌∙◌}
 use borrow.Author.Tests.{not-true, not-false}
 use Rattle.soundness.specs.StartLaws.{parts-many, parts_low, parts-high}
-use borrow.Author.Rules.{rules}
 use Rattle.soundness.proofs.lists.parts.Goals as goal
 
 pub returns-then-u-n : goal.returns-then-u-n

@@ -1,10 +1,7 @@
 -- `rights`: each entry passed is a key in use.
-use Prim.Native.Nat.{◌-◌}
 use mathlib.Core.Path.{sym, ◌∙◌}
 use borrow.Author.Tests.{not-true, not-false}
-use Rattle.soundness.specs.Tests.{right_at}
-use Rattle.soundness.specs.EveryLaws.{Passed, passed_none, passed-more, passed-end, passed-stop}
-use borrow.Author.Rules.{rules}
+use Rattle.soundness.specs.EveryLaws.{passed_none, passed-more, passed-end, passed-stop}
 use Rattle.soundness.proofs.lists.rights.Goals as goal
 
 pub loop-i-init : goal.loop-i-init

@@ -1,10 +1,7 @@
 -- `rises`: each entry passed is below the next.
-use Prim.Native.Nat.{◌-◌}
 use native.Mathlib.Omega.{arith}
 use borrow.Author.Tests.{lt-ltb, le-ltb}
-use Rattle.soundness.specs.Tests.{rises_at}
-use Rattle.soundness.specs.EveryLaws.{Passed, passed_none, passed-more, passed-end, passed-stop}
-use borrow.Author.Rules.{rules}
+use Rattle.soundness.specs.EveryLaws.{passed_none, passed-more, passed-end, passed-stop}
 use Rattle.soundness.proofs.lists.rises.Goals as goal
 
 pub loop-i-init : goal.loop-i-init

@@ -1,9 +1,6 @@
 use Prim.Native.Nat.{◌-◌}
-use native.Mathlib.Omega.{arith}
-use borrow.Author.Tests.{lt-ltb, le-ltb}
 use Rattle.soundness.specs.Tests.{rises_at}
-use Rattle.soundness.specs.EveryLaws.{Passed, passed_none, passed-more, passed-end, passed-stop}
-use borrow.Author.Rules.{rules}
+use Rattle.soundness.specs.EveryLaws.{Passed}
 use Rattle.soundness.proofs.lists.rises.Given as goal
 
 abbrev pub invariant-loop-i : goal.invariant-loop-i

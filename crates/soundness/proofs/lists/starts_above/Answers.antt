@@ -1,6 +1,5 @@
 -- `starts_above`: there is no entry after the first n of u, or it is not below the key.
 use Rattle.soundness.specs.StartLaws.{above-none, above-some}
-use borrow.Author.Rules.{rules}
 use Rattle.soundness.proofs.lists.starts_above.Goals as goal
 
 pub returns-then-n-u : goal.returns-then-n-u

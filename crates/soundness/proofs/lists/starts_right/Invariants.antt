@@ -1,10 +1,7 @@
 use Prim.Native.Nat.{◌-◌}
 use lib.ListN.{length}
-use mathlib.Core.Path.{ap, sym, ◌∙◌}
-use borrow.Author.Tests.{not-true, not-false}
-use Rattle.soundness.specs.Tests.{parts, start_right}
-use Rattle.soundness.specs.EveryLaws.{Passed, passed_none, passed-more, passed-end, passed-stop}
-use borrow.Author.Rules.{rules}
+use Rattle.soundness.specs.Tests.{start_right}
+use Rattle.soundness.specs.EveryLaws.{Passed}
 use Rattle.soundness.proofs.lists.starts_right.Given as goal
 
 abbrev pub invariant-loop-p : goal.invariant-loop-p

@@ -1,10 +1,6 @@
 -- `bytes_between`: the bytes passed are asked, one with the other.
-use Prim.Native.Nat.{◌-◌}
-use lib.ListN.{length}
-use Rattle.tables.specs.Slots.{car_between}
-use Rattle.soundness.specs.Tests.{says_at, says}
-use Rattle.soundness.specs.EveryLaws.{Asked, asked-none, asked-more, asked-end}
-use borrow.Author.Rules.{rules}
+use Rattle.soundness.specs.Tests.{says}
+use Rattle.soundness.specs.EveryLaws.{asked-none, asked-more, asked-end}
 use Rattle.soundness.proofs.roster.bytes_between.Goals as goal
 
 pub loop-c-init : goal.loop-c-init

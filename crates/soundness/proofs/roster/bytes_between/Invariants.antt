@@ -1,9 +1,8 @@
 use Prim.Native.Nat.{◌-◌}
 use lib.ListN.{length}
 use Rattle.tables.specs.Slots.{car_between}
-use Rattle.soundness.specs.Tests.{says_at, says}
-use Rattle.soundness.specs.EveryLaws.{Asked, asked-none, asked-more, asked-end}
-use borrow.Author.Rules.{rules}
+use Rattle.soundness.specs.Tests.{says_at}
+use Rattle.soundness.specs.EveryLaws.{Asked}
 use Rattle.soundness.proofs.roster.bytes_between.Given as goal
 
 abbrev pub invariant-loop-c : goal.invariant-loop-c

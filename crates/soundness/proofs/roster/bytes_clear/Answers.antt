@@ -1,11 +1,7 @@
 -- `bytes_clear`: the bytes passed are asked, one with the other.
-use Prim.Native.Nat.{◌-◌}
-use mathlib.Core.Bool.{false}
 use mathlib.Core.Path.{refl}
-use lib.ListN.{length}
-use Rattle.soundness.specs.Tests.{says_at, says}
-use Rattle.soundness.specs.EveryLaws.{Asked, asked-none, asked-more, asked-end}
-use borrow.Author.Rules.{rules}
+use Rattle.soundness.specs.Tests.{says}
+use Rattle.soundness.specs.EveryLaws.{asked-none, asked-more, asked-end}
 use Rattle.soundness.proofs.roster.bytes_clear.Goals as goal
 
 pub loop-c-init : goal.loop-c-init

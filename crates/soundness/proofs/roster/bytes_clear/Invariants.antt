@@ -1,10 +1,8 @@
 use Prim.Native.Nat.{◌-◌}
 use mathlib.Core.Bool.{false}
-use mathlib.Core.Path.{refl}
 use lib.ListN.{length}
-use Rattle.soundness.specs.Tests.{says_at, says}
-use Rattle.soundness.specs.EveryLaws.{Asked, asked-none, asked-more, asked-end}
-use borrow.Author.Rules.{rules}
+use Rattle.soundness.specs.Tests.{says_at}
+use Rattle.soundness.specs.EveryLaws.{Asked}
 use Rattle.soundness.proofs.roster.bytes_clear.Given as goal
 
 abbrev pub invariant-loop-c : goal.invariant-loop-c

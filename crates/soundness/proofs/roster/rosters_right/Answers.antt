@@ -1,9 +1,8 @@
 -- `rosters_right`: each row passed is right, and the rows together are all the bytes.
-use Prim.Native.Nat.{◌-◌}
 use mathlib.Core.Path.{◌≡◌, sym, ◌∙◌}
 use borrow.Author.Tests.{not-true, not-false}
 use Rattle.tables.specs.Rows.{RowThere}
-use Rattle.soundness.specs.EveryLaws.{Passed, passed_none, passed-more, passed-end, passed-stop, every-rows}
+use Rattle.soundness.specs.EveryLaws.{passed_none, passed-more, passed-end, passed-stop, every-rows}
 use Rattle.soundness.specs.RosterLaws.{row_right, row-there, row-long, row-bytes}
 use borrow.Author.Rules.{rules}
 use Rattle.soundness.proofs.roster.rosters_right.Goals as goal

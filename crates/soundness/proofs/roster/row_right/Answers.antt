@@ -5,7 +5,6 @@ use Rattle.tables.specs.Slots.{car_between}
 use Rattle.soundness.specs.Tests.{says}
 use Rattle.soundness.specs.ZoneLaws.{zone-fits}
 use Rattle.soundness.specs.RosterLaws.{has-down, has-between}
-use borrow.Author.Rules.{rules}
 use Rattle.soundness.proofs.roster.row_right.Goals as goal
 
 pub returns-then-r-eq0 : goal.returns-then-r-eq0

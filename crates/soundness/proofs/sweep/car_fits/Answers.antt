@@ -4,7 +4,6 @@ use native.Mathlib.Omega.{arith}
 use Rattle.position.specs.Spots.{spot_on}
 use Rattle.tables.specs.Tables.{spot_in}
 use Rattle.soundness.specs.CarLaws.{car-away, car-teamless, car-off, car-on}
-use borrow.Author.Rules.{rules}
 use Rattle.soundness.proofs.sweep.car_fits.Goals as goal
 
 pub returns-then-car-eq0 : goal.returns-then-car-eq0

@@ -1,10 +1,7 @@
 -- `cars_fit`: each car passed that is placed fits.
-use Prim.Native.Nat.{◌-◌}
 use mathlib.Core.Path.{sym, ◌∙◌}
 use borrow.Author.Tests.{not-true, not-false}
-use Rattle.soundness.specs.Tests.{car_fits}
-use Rattle.soundness.specs.EveryLaws.{Passed, passed_none, passed-more, passed-end, passed-stop}
-use borrow.Author.Rules.{rules}
+use Rattle.soundness.specs.EveryLaws.{passed_none, passed-more, passed-end, passed-stop}
 use Rattle.soundness.proofs.sweep.cars_fit.Goals as goal
 
 pub loop-c-init : goal.loop-c-init

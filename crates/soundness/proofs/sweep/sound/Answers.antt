@@ -3,10 +3,9 @@ use mathlib.Core.Bool.{true}
 use mathlib.Core.Path.{◌≡◌, sym, ◌∙◌}
 use borrow.Author.Tests.{not-true, not-false}
 use lib.ListN.{length}
-use Rattle.tables.specs.Tables.{Tables, tables}
+use Rattle.tables.specs.Tables.{tables}
 use Rattle.soundness.specs.Tests.{every, zone_fits, car_fits, entries_right, start_right, in_use}
 use Rattle.soundness.specs.SweepLaws.{Known, zoned, parked, fitting, riding, starts-few, bytes-many, rows-there, numbers-many, last-start, entries-few, unsound-zones, unsound-cars, unsound-entries, unsound-starts, unsound-rosters, sound-tallies}
-use borrow.Author.Rules.{rules}
 use Rattle.soundness.proofs.sweep.sound.Goals as goal
 
 pub zones_fit-requires : goal.zones_fit-requires

@@ -1,6 +1,5 @@
 -- `zone_fits`: a zone that does not stand passes, and of one that stands the rectangle is asked.
 use Rattle.soundness.specs.ZoneLaws.{fits-down, fits-up}
-use borrow.Author.Rules.{rules}
 use Rattle.soundness.proofs.sweep.zone_fits.Goals as goal
 
 pub returns-then-r-eq0 : goal.returns-then-r-eq0

@@ -1,10 +1,7 @@
 -- `zones_fit`: each zone passed that stands fits.
-use Prim.Native.Nat.{◌-◌}
 use mathlib.Core.Path.{sym, ◌∙◌}
 use borrow.Author.Tests.{not-true, not-false}
-use Rattle.soundness.specs.Tests.{zone_fits}
-use Rattle.soundness.specs.EveryLaws.{Passed, passed_none, passed-more, passed-end, passed-stop}
-use borrow.Author.Rules.{rules}
+use Rattle.soundness.specs.EveryLaws.{passed_none, passed-more, passed-end, passed-stop}
 use Rattle.soundness.proofs.sweep.zones_fit.Goals as goal
 
 pub loop-z-init : goal.loop-z-init

@@ -1,9 +1,6 @@
 use Prim.Native.Nat.{◌-◌}
-use mathlib.Core.Path.{sym, ◌∙◌}
-use borrow.Author.Tests.{not-true, not-false}
 use Rattle.soundness.specs.Tests.{zone_fits}
-use Rattle.soundness.specs.EveryLaws.{Passed, passed_none, passed-more, passed-end, passed-stop}
-use borrow.Author.Rules.{rules}
+use Rattle.soundness.specs.EveryLaws.{Passed}
 use Rattle.soundness.proofs.sweep.zones_fit.Given as goal
 
 abbrev pub invariant-loop-z : goal.invariant-loop-z

@@ -1,10 +1,6 @@
 -- `row_right`: each number passed is that of the row.
-use Prim.Native.Nat.{◌-◌}
 use borrow.Author.Tests.{eq-eqb, ne_eqb}
-use Rattle.tables.specs.Tables.{tally}
-use Rattle.soundness.specs.Tests.{number_right}
-use Rattle.soundness.specs.EveryLaws.{Passed, passed_none, passed-more, passed-end, passed-stop}
-use borrow.Author.Rules.{rules}
+use Rattle.soundness.specs.EveryLaws.{passed_none, passed-more, passed-end, passed-stop}
 use Rattle.soundness.proofs.tally.row_right.Goals as goal
 
 pub loop-j-init : goal.loop-j-init

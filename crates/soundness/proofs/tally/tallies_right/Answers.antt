@@ -1,10 +1,7 @@
 -- `tallies_right`: each zone passed has the numbers that its row and the cars' records give.
-use Prim.Native.Nat.{◌-◌}
 use mathlib.Core.Path.{sym, ◌∙◌}
-use lib.ListN.{length}
 use borrow.Author.Tests.{not-true, not-false}
-use Rattle.soundness.specs.Tests.{tally_right}
-use Rattle.soundness.specs.EveryLaws.{Passed, passed_none, passed-more, passed-end, passed-stop}
+use Rattle.soundness.specs.EveryLaws.{passed_none, passed-more, passed-end, passed-stop}
 use borrow.Author.Rules.{rules}
 use Rattle.soundness.proofs.tally.tallies_right.Goals as goal
 

@@ -1,10 +1,7 @@
 use Prim.Native.Nat.{◌-◌}
-use mathlib.Core.Path.{sym, ◌∙◌}
 use lib.ListN.{length}
-use borrow.Author.Tests.{not-true, not-false}
 use Rattle.soundness.specs.Tests.{tally_right}
-use Rattle.soundness.specs.EveryLaws.{Passed, passed_none, passed-more, passed-end, passed-stop}
-use borrow.Author.Rules.{rules}
+use Rattle.soundness.specs.EveryLaws.{Passed}
 use Rattle.soundness.proofs.tally.tallies_right.Given as goal
 
 abbrev pub invariant-loop-z : goal.invariant-loop-z

@@ -1,6 +1,5 @@
 -- `tally_right` counts the zone's cars anew, and compares the numbers.
 use Rattle.soundness.specs.Tests.{tally_right}
-use borrow.Author.Rules.{rules}
 use Rattle.soundness.proofs.tally.tally_right.Goals as goal
 
 pub returns : goal.returns

@@ -1,6 +1,5 @@
 -- `lower_starts` moves the starts by steps of 2^32 - 1: one less each.
 use Rattle.starts.specs.ShiftLaws.{steps-down, moved_as}
-use Rattle.std.proofs.Common.{rules}
 use Rattle.starts.proofs.shift.lower_starts.Goals as goal
 
 pub returns : goal.returns

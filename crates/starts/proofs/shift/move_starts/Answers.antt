@@ -1,7 +1,6 @@
 -- `move_starts` moves each start by a step for each of the keys before its place: from key to key by one step more.
-use Rattle.std.proofs.Common.{◌≡◌, ◌-◌, length, take, arith, length-take-le, rules}
-use Rattle.starts.specs.Shift.{steps}
-use Rattle.starts.specs.ShiftLaws.{Moving, move-begins, move-turns, move-ends, key-there, steps-more}
+use Rattle.std.proofs.Common.{◌≡◌, length, take, arith, length-take-le}
+use Rattle.starts.specs.ShiftLaws.{move-begins, move-turns, move-ends, key-there, steps-more}
 use Rattle.starts.proofs.shift.move_starts.Goals as goal
 
 pub loop-j-init : goal.loop-j-init

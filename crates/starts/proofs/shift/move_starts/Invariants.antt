@@ -1,6 +1,6 @@
-use Rattle.std.proofs.Common.{◌≡◌, ◌-◌, length, take, arith, length-take-le, rules}
+use Rattle.std.proofs.Common.{◌≡◌, ◌-◌, take}
 use Rattle.starts.specs.Shift.{steps}
-use Rattle.starts.specs.ShiftLaws.{Moving, move-begins, move-turns, move-ends, key-there, steps-more}
+use Rattle.starts.specs.ShiftLaws.{Moving}
 use Rattle.starts.proofs.shift.move_starts.Given as goal
 
 abbrev pub invariant-loop-j : goal.invariant-loop-j

@@ -1,6 +1,5 @@
 -- `raise_starts` moves the starts by steps of one.
 use Rattle.starts.specs.ShiftLaws.{steps_up, moved_as}
-use Rattle.std.proofs.Common.{rules}
 use Rattle.starts.proofs.shift.raise_starts.Goals as goal
 
 pub returns : goal.returns

@@ -1,6 +1,5 @@
 -- `shift_to` moves the numbers of one range by v: the loop passes them one by one, and by 0 they stay.
-use Rattle.std.proofs.Common.{◌-◌, arith, rules}
-use Rattle.starts.specs.Shift.{Shifting}
+use Rattle.std.proofs.Common.{arith}
 use Rattle.starts.specs.ShiftLaws.{shift_none, shift-still, shift-begins, shift-turns}
 use Rattle.starts.proofs.shift.shift_to.Goals as goal
 

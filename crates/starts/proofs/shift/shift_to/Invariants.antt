@@ -1,6 +1,5 @@
-use Rattle.std.proofs.Common.{◌-◌, arith, rules}
+use Rattle.std.proofs.Common.{◌-◌}
 use Rattle.starts.specs.Shift.{Shifting}
-use Rattle.starts.specs.ShiftLaws.{shift_none, shift-still, shift-begins, shift-turns}
 use Rattle.starts.proofs.shift.shift_to.Given as goal
 
 abbrev pub invariant-loop-q : goal.invariant-loop-q

@@ -1,6 +1,5 @@
 -- `fill_to` sets the numbers of one range, where the range has any.
 use Rattle.starts.specs.RankLaws.{fill_none, fill-part}
-use Rattle.std.proofs.Common.{rules}
 use Rattle.starts.proofs.starts.fill_to.Goals as goal
 
 pub returns-then-end-p : goal.returns-then-end-p

@@ -1,6 +1,5 @@
 -- `place_after` is the place after a key's own, or the end.
 use Rattle.starts.specs.RankLaws.{reach-most, reach-own}
-use Rattle.std.proofs.Common.{rules}
 use Rattle.starts.proofs.starts.place_after.Goals as goal
 
 pub returns-then-many-end : goal.returns-then-many-end

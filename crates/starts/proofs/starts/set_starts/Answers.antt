@@ -1,6 +1,6 @@
 -- `set_starts` counts the keys before each place in one pass: each entry sets the places up to its own.
-use Rattle.std.proofs.Common.{◌-◌, length, arith, rules}
-use Rattle.starts.specs.RankLaws.{Ranking, rank-begins, rank-turns, rank-full, rank-ends}
+use Rattle.std.proofs.Common.{arith}
+use Rattle.starts.specs.RankLaws.{rank-begins, rank-turns, rank-full, rank-ends}
 use Rattle.starts.proofs.starts.set_starts.Goals as goal
 
 pub loop-i-init : goal.loop-i-init

@@ -1,5 +1,5 @@
-use Rattle.std.proofs.Common.{◌-◌, length, arith, rules}
-use Rattle.starts.specs.RankLaws.{Ranking, rank-begins, rank-turns, rank-full, rank-ends}
+use Rattle.std.proofs.Common.{◌-◌, length}
+use Rattle.starts.specs.RankLaws.{Ranking}
 use Rattle.starts.proofs.starts.set_starts.Given as goal
 
 abbrev pub invariant-loop-i : goal.invariant-loop-i

@@ -1,6 +1,6 @@
 -- `swap_starts` passes the keys of both lists, the lower of the next two first: from key to key one more or one less.
-use Rattle.std.proofs.Common.{◌+◌, ◌-◌, arith, rules}
-use Rattle.starts.specs.SwapStartLaws.{Passing, pass-begins, NextKey, next-key, next-room, first-in, second-in, pass-drops, pass-takes, pass-ends}
+use Rattle.std.proofs.Common.{◌+◌, arith}
+use Rattle.starts.specs.SwapStartLaws.{pass-begins, NextKey, next-key, next-room, first-in, second-in, pass-drops, pass-takes, pass-ends}
 use Rattle.starts.proofs.swap.swap_starts.Goals as goal
 
 pub loop-i-init : goal.loop-i-init

@@ -1,5 +1,5 @@
-use Rattle.std.proofs.Common.{◌+◌, ◌-◌, arith, rules}
-use Rattle.starts.specs.SwapStartLaws.{Passing, pass-begins, NextKey, next-key, next-room, first-in, second-in, pass-drops, pass-takes, pass-ends}
+use Rattle.std.proofs.Common.{◌+◌, ◌-◌}
+use Rattle.starts.specs.SwapStartLaws.{Passing}
 use Rattle.starts.proofs.swap.swap_starts.Given as goal
 
 abbrev pub invariant-loop-i : goal.invariant-loop-i
