@@ -1,7 +1,7 @@
 -- Soundness keeps the promise, on any tables.
-use Rattle.std.specs.Prelude.{ℕ, ◌≡◌, Bool, true, false, [], ◌∷◌}
+use Rattle.std.specs.Prelude.{◌≡◌, Bool, true, false, [], ◌∷◌}
 use Rattle.std.proofs.Math.Path.{refl}
-use Rattle.std.proofs.Common.{ap, sym, ◌∙◌, arith}
+use Rattle.std.proofs.Common.{sym, ◌∙◌, arith}
 use Rattle.order.specs.Sums.{bit}
 use Rattle.squares.specs.Refusals.{first, accept}
 use Rattle.squares.specs.RefusalLaws.{stops}

@@ -3,10 +3,9 @@ use mathlib.Core.Path.{refl, sym, ◌∙◌}
 use native.Mathlib.Omega.{arith}
 use Rattle.order.specs.BufferLaws.{front-within, count-front}
 use Rattle.model.specs.Model.{meaning}
-use Rattle.tables.specs.Tables.{Tables, tables}
+use Rattle.tables.specs.Tables.{tables}
 use Rattle.promises.specs.PromiseLaws.{keeps-refused}
 use Rattle.cars.specs.LeaveLaws.{Leavable, leavable, lost-kept, leave-asks, leave-kept}
-use borrow.Author.Rules.{rules}
 use Rattle.cars.proofs.leave.leave_map.Goals as goal
 
 pub returns-then-refusal-ne0 : goal.returns-then-refusal-ne0

@@ -1,14 +1,11 @@
 -- `refuse_leave` asks what every call on a car on the map asks, and then for room in the buffer.
-use mathlib.Core.List.{List}
 use mathlib.Core.Path.{refl, sym, ◌∙◌}
 use native.Mathlib.Omega.{arith}
-use Rattle.squares.specs.Refusals.{Bar}
 use Rattle.squares.specs.RefusalLaws.{Clear, clear, before, after, enough, short}
 use Rattle.model.specs.Model.{ask_where, meaning}
-use Rattle.tables.specs.Tables.{Tables, tables}
+use Rattle.tables.specs.Tables.{tables}
 use Rattle.tables.specs.CheckLaws.{sized→}
 use Rattle.promises.specs.Promise.{means}
-use borrow.Author.Rules.{rules}
 use Rattle.cars.proofs.leave.refuse_leave.Goals as goal
 
 pub returns-then-refusal-ne0 : goal.returns-then-refusal-ne0

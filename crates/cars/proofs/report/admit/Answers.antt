@@ -5,7 +5,7 @@ use native.Mathlib.Omega.{arith}
 use lib.Dec.{ltb}
 use Rattle.position.specs.Answer.{on_town}
 use Rattle.model.specs.Model.{teamed, meaning}
-use Rattle.tables.specs.Tables.{Tables, tables, shape_of, car_room, car_in}
+use Rattle.tables.specs.Tables.{tables, shape_of, car_room, car_in}
 use Rattle.tables.specs.Check.{sized}
 use Rattle.tables.specs.CheckLaws.{sized→}
 use Rattle.tables.specs.RecordLaws.{team-known}
@@ -13,7 +13,6 @@ use Rattle.squares.specs.RefusalLaws.{holds, fails, below, beyond, enough, short
 use Rattle.lookup.specs.SpotLaws.{spot-off, spot_on_lem}
 use Rattle.cars.specs.declared.report.Admitted.{Admitted}
 use Rattle.cars.specs.AdmitLaws.{admits}
-use borrow.Author.Rules.{rules}
 use Rattle.cars.proofs.report.admit.Goals as goal
 
 pub returns-then-not-sized : goal.returns-then-not-sized

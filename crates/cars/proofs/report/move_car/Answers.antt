@@ -2,7 +2,6 @@
 use native.Mathlib.Omega.{arith}
 use Rattle.order.specs.BufferLaws.{count-front}
 use Rattle.cars.specs.ReportLaws.{car-there, spot-there, see-asks, report-kept}
-use borrow.Author.Rules.{rules}
 use Rattle.cars.proofs.report.move_car.Goals as goal
 
 pub shape_in-s-requires : goal.shape_in-s-requires

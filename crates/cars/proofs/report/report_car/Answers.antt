@@ -1,7 +1,6 @@
 -- `report_car` answers the refusal, or moves the car that is admitted.
 use mathlib.Core.Path.{sym, ◌∙◌}
 use Rattle.cars.specs.AdmitLaws.{not-admitted, reportable}
-use borrow.Author.Rules.{rules}
 use Rattle.cars.proofs.report.report_car.Goals as goal
 
 pub move_car-requires : goal.move_car-requires

@@ -4,7 +4,6 @@ use mathlib.Core.Path.{◌≡◌}
 use Rattle.squares.specs.RefusalLaws.{holds, fails}
 use Rattle.tables.specs.Tables.{placed_in}
 use Rattle.cars.specs.SeeLaws.{old-map, sees-entering, sees-lost, sees-same, sees-crossing}
-use borrow.Author.Rules.{rules}
 use Rattle.cars.proofs.report.see.Goals as goal
 
 pub enter-requires : goal.enter-requires

@@ -2,7 +2,6 @@
 use native.Mathlib.Omega.{arith}
 use lib.ListN.{length-set}
 use Rattle.edits.specs.SpotLaws.{spot-stored}
-use borrow.Author.Rules.{rules}
 use Rattle.edits.proofs.cars.write_spot.Goals as goal
 
 pub bounds-spots-at-2 : goal.bounds-spots-at-2

@@ -2,7 +2,6 @@
 use native.Mathlib.Omega.{arith}
 use lib.ListN.{length-set}
 use Rattle.edits.specs.ZoneLaws.{zone-stored}
-use borrow.Author.Rules.{rules}
 use Rattle.edits.proofs.zones.write_zone.Goals as goal
 
 pub bounds-zones-at-2 : goal.bounds-zones-at-2

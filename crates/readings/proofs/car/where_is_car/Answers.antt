@@ -1,11 +1,10 @@
 -- `where_is_car` answers the stored position, past the refusals.
-use Rattle.tables.specs.Tables.{Tables, tables}
+use Rattle.tables.specs.Tables.{tables}
 use mathlib.Core.Path.{refl, sym, ◌∙◌}
 use Rattle.promises.specs.PromiseLaws.{keeps-refused}
 use native.Mathlib.Omega.{arith}
 use Rattle.model.specs.Model.{meaning}
 use Rattle.readings.specs.ReadLaws.{Placed, placed-there, where-kept}
-use borrow.Author.Rules.{rules}
 use Rattle.readings.proofs.car.where_is_car.Goals as goal
 
 pub returns-then-refusal-ne0 : goal.returns-then-refusal-ne0

@@ -1,12 +1,11 @@
 -- `count_of_zone` answers the stored number, past the refusals.
 use mathlib.Core.Path.{refl, sym, ◌∙◌}
 use Rattle.model.specs.Model.{meaning}
-use Rattle.tables.specs.Tables.{Tables, tables}
+use Rattle.tables.specs.Tables.{tables}
 use Rattle.tables.specs.TallyLaws.{count-in}
 use Rattle.promises.specs.PromiseLaws.{keeps-refused}
 use Rattle.promises.specs.StandingLaws.{There, zone-there}
 use Rattle.readings.specs.ReadLaws.{count_kept}
-use borrow.Author.Rules.{rules}
 use Rattle.readings.proofs.count.count_of_zone.Goals as goal
 
 pub returns-then-refusal-ne0 : goal.returns-then-refusal-ne0

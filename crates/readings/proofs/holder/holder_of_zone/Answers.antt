@@ -2,12 +2,11 @@
 use mathlib.Core.Path.{refl, sym, ◌∙◌}
 use native.Mathlib.Omega.{arith}
 use Rattle.model.specs.Model.{meaning}
-use Rattle.tables.specs.Tables.{Tables, tables}
+use Rattle.tables.specs.Tables.{tables}
 use Rattle.tables.specs.TallyLaws.{tally-in}
 use Rattle.promises.specs.PromiseLaws.{keeps-refused}
 use Rattle.promises.specs.StandingLaws.{There, zone-there}
 use Rattle.readings.specs.ReadLaws.{holder-kept}
-use borrow.Author.Rules.{rules}
 use Rattle.readings.proofs.holder.holder_of_zone.Goals as goal
 
 pub returns-then-refusal-ne0 : goal.returns-then-refusal-ne0

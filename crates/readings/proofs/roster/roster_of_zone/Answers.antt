@@ -2,11 +2,10 @@
 use mathlib.Core.Path.{refl, sym, ◌∙◌}
 use native.Mathlib.Omega.{arith}
 use Rattle.model.specs.Model.{meaning}
-use Rattle.tables.specs.Tables.{Tables, tables}
+use Rattle.tables.specs.Tables.{tables}
 use Rattle.tables.specs.RowLaws.{row-in}
 use Rattle.promises.specs.PromiseLaws.{keeps-refused}
 use Rattle.readings.specs.ReadLaws.{Standing, standing, roster-kept}
-use borrow.Author.Rules.{rules}
 use Rattle.readings.proofs.roster.roster_of_zone.Goals as goal
 
 pub returns-then-refusal-ne0 : goal.returns-then-refusal-ne0

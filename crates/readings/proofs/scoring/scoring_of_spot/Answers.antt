@@ -3,12 +3,11 @@ use mathlib.Core.Bool.{true}
 use mathlib.Core.Path.{◌≡◌}
 use native.Mathlib.Omega.{arith}
 use Rattle.squares.specs.RefusalLaws.{holds, fails}
-use Rattle.tables.specs.Tables.{Tables, tables}
+use Rattle.tables.specs.Tables.{tables}
 use Rattle.tables.specs.Check.{sized}
 use Rattle.tables.specs.CheckLaws.{sized→}
 use Rattle.lookup.specs.SpotLaws.{spot-asks}
 use Rattle.readings.specs.ScoringLaws.{scoring-unsized, scoring-off, scoring-kept}
-use borrow.Author.Rules.{rules}
 use Rattle.readings.proofs.scoring.scoring_of_spot.Goals as goal
 
 pub returns-then-not-sized : goal.returns-then-not-sized

@@ -4,12 +4,11 @@ use mathlib.Core.Path.{◌≡◌}
 use native.Mathlib.Omega.{arith}
 use Rattle.position.specs.Answer.{on_town}
 use Rattle.model.specs.Model.{meaning}
-use Rattle.tables.specs.Tables.{Tables, tables, shape_of}
+use Rattle.tables.specs.Tables.{tables, shape_of}
 use Rattle.tables.specs.Check.{sized}
 use Rattle.tables.specs.CheckLaws.{sized→}
 use Rattle.squares.specs.RefusalLaws.{stops, holds, fails, enough, short}
 use Rattle.lookup.specs.SpotLaws.{spot-off, spot_on_lem}
-use borrow.Author.Rules.{rules}
 use Rattle.readings.proofs.search.refuse_search.Goals as goal
 
 pub returns-then-not-sized : goal.returns-then-not-sized

@@ -2,10 +2,9 @@
 use mathlib.Core.Path.{refl, sym, ◌∙◌}
 use native.Mathlib.Omega.{arith}
 use Rattle.model.specs.Model.{meaning}
-use Rattle.tables.specs.Tables.{Tables, tables}
+use Rattle.tables.specs.Tables.{tables}
 use Rattle.promises.specs.PromiseLaws.{keeps-refused}
 use Rattle.readings.specs.SearchLaws.{Searchable, searchable, search-on, search-asks, search-kept}
-use borrow.Author.Rules.{rules}
 use Rattle.readings.proofs.search.search_zones.Goals as goal
 
 pub returns-then-refusal-ne0 : goal.returns-then-refusal-ne0

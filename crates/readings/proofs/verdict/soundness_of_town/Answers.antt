@@ -5,7 +5,6 @@ use borrow.Author.Tests.{not-true, not-false}
 use Rattle.squares.specs.RefusalLaws.{holds, fails}
 use Rattle.tables.specs.CheckLaws.{sized→}
 use Rattle.readings.specs.SoundnessLaws.{soundness-refused, soundness-done}
-use borrow.Author.Rules.{rules}
 use Rattle.readings.proofs.verdict.soundness_of_town.Goals as goal
 
 pub returns-then-not-sized : goal.returns-then-not-sized

@@ -1,12 +1,8 @@
 -- `sieve_codes` moves the squares that are not in the cut to the front.
-use Prim.Native.Nat.{◌-◌}
 use mathlib.Core.Path.{ap, sym, ◌∙◌}
 use mathlib.Core.Bool.{not}
 use native.Mathlib.Omega.{arith}
-use lib.ListN.{length}
-use Rattle.rides.specs.Apart.{code_out}
-use Rattle.rides.specs.ApartLaws.{Sieving, sieve-begins, sieve-takes, sieve-skips, sieve-next, sieve-ends}
-use borrow.Author.Rules.{rules}
+use Rattle.rides.specs.ApartLaws.{sieve-begins, sieve-takes, sieve-skips, sieve-next, sieve-ends}
 use Rattle.rides.proofs.apart.sieve_codes.Goals as goal
 
 pub loop-i-init : goal.loop-i-init

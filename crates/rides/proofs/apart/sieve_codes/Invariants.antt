@@ -1,11 +1,7 @@
 use Prim.Native.Nat.{◌-◌}
-use mathlib.Core.Path.{ap, sym, ◌∙◌}
-use mathlib.Core.Bool.{not}
-use native.Mathlib.Omega.{arith}
 use lib.ListN.{length}
 use Rattle.rides.specs.Apart.{code_out}
-use Rattle.rides.specs.ApartLaws.{Sieving, sieve-begins, sieve-takes, sieve-skips, sieve-next, sieve-ends}
-use borrow.Author.Rules.{rules}
+use Rattle.rides.specs.ApartLaws.{Sieving}
 use Rattle.rides.proofs.apart.sieve_codes.Given as goal
 
 abbrev pub invariant-loop-i : goal.invariant-loop-i

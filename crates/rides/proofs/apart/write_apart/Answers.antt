@@ -2,7 +2,6 @@
 use Rattle.order.specs.BufferLaws.{count-front}
 use Rattle.entries.specs.KeyLaws.{keys-fit}
 use Rattle.rides.specs.ApartLaws.{sieve-room, left-fits, left-coded, apart-written}
-use borrow.Author.Rules.{rules}
 use Rattle.rides.proofs.apart.write_apart.Goals as goal
 
 pub slice_bounds-sieve_codes-end-2 : goal.slice_bounds-sieve_codes-end-2

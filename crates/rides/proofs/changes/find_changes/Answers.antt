@@ -1,7 +1,6 @@
 -- `find_changes` writes the keys of both rectangles one after the other and parts them, where both have room.
 use native.Mathlib.Omega.{arith}
 use Rattle.rides.specs.ChangeLaws.{changes-parted}
-use borrow.Author.Rules.{rules}
 use Rattle.rides.proofs.changes.find_changes.Goals as goal
 
 pub returns : goal.returns

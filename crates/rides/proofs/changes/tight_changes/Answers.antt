@@ -1,7 +1,6 @@
 -- `tight_changes` writes the keys that only the old rectangle has, and after them, where all keys of the new have room, its own.
 use native.Mathlib.Omega.{arith}
 use Rattle.rides.specs.ChangeLaws.{room-first, gone-fits, gone-few, room-second, changes-tight}
-use borrow.Author.Rules.{rules}
 use Rattle.rides.proofs.changes.tight_changes.Goals as goal
 
 pub write_apart-gone-requires : goal.write_apart-gone-requires

@@ -1,7 +1,6 @@
 -- `drops_last` answers no where none is left that is dropped, and else what the test says.
 use native.Mathlib.Omega.{arith}
 use Rattle.rides.specs.LiftLaws.{no_drop}
-use borrow.Author.Rules.{rules}
 use Rattle.rides.proofs.lift.drops_last.Goals as goal
 
 pub returns-then-i-m : goal.returns-then-i-m

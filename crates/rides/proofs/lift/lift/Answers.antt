@@ -1,9 +1,8 @@
 -- `lift` moves from the right end: what is done stands after what is left, and that is as it was.
-use Prim.Native.Nat.{◌+◌, ◌-◌, ◌<◌, ◌≤◌}
+use Prim.Native.Nat.{◌-◌, ◌<◌, ◌≤◌}
 use lib.ListN.{get_or}
 use native.Mathlib.Omega.{arith}
-use Rattle.rides.specs.LiftLaws.{Lifting, lift-begins, lift-stops, lift-drops, lift-none, lift-takes, lift-ends}
-use borrow.Author.Rules.{rules}
+use Rattle.rides.specs.LiftLaws.{lift-begins, lift-stops, lift-drops, lift-none, lift-takes, lift-ends}
 use Rattle.rides.proofs.lift.lift.Goals as goal
 
 pub loop-j-init : goal.loop-j-init

@@ -1,8 +1,5 @@
-use Prim.Native.Nat.{◌+◌, ◌-◌, ◌<◌, ◌≤◌}
-use lib.ListN.{get_or}
-use native.Mathlib.Omega.{arith}
-use Rattle.rides.specs.LiftLaws.{Lifting, lift-begins, lift-stops, lift-drops, lift-none, lift-takes, lift-ends}
-use borrow.Author.Rules.{rules}
+use Prim.Native.Nat.{◌+◌}
+use Rattle.rides.specs.LiftLaws.{Lifting}
 use Rattle.rides.proofs.lift.lift.Given as goal
 
 abbrev pub invariant-loop-j : goal.invariant-loop-j

@@ -1,7 +1,6 @@
 -- `seat_in` passes entries that are not below the key, from the limit down.
 use native.Mathlib.Omega.{arith}
-use Rattle.rides.specs.LiftLaws.{Most, most-begins, most-turns, most-found, most-ends}
-use borrow.Author.Rules.{rules}
+use Rattle.rides.specs.LiftLaws.{most-begins, most-turns, most-found, most-ends}
 use Rattle.rides.proofs.lift.seat_in.Goals as goal
 
 pub loop-i-init : goal.loop-i-init

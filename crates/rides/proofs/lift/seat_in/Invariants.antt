@@ -1,6 +1,4 @@
-use native.Mathlib.Omega.{arith}
-use Rattle.rides.specs.LiftLaws.{Most, most-begins, most-turns, most-found, most-ends}
-use borrow.Author.Rules.{rules}
+use Rattle.rides.specs.LiftLaws.{Most}
 use Rattle.rides.proofs.lift.seat_in.Given as goal
 
 abbrev pub invariant-loop-i : goal.invariant-loop-i

@@ -1,9 +1,9 @@
 -- `part_keys` passes the lower of the next numbers of both lists, which is kept, or both where they are equal.
-use Prim.Native.Nat.{◌+◌, ◌-◌, ◌<◌}
+use Prim.Native.Nat.{◌+◌, ◌<◌}
 use mathlib.Core.Path.{◌≡◌}
 use mathlib.Core.Bool.{true}
 use native.Mathlib.Omega.{arith}
-use Rattle.rides.specs.PartLaws.{Parting, part-begins, part-first, part-second, part-both, part-ends}
+use Rattle.rides.specs.PartLaws.{part-begins, part-first, part-second, part-both, part-ends}
 use borrow.Author.Rules.{rules}
 use Rattle.rides.proofs.part.part_keys.Goals as goal
 

@@ -1,9 +1,5 @@
-use Prim.Native.Nat.{◌+◌, ◌-◌, ◌<◌}
-use mathlib.Core.Path.{◌≡◌}
-use mathlib.Core.Bool.{true}
-use native.Mathlib.Omega.{arith}
-use Rattle.rides.specs.PartLaws.{Parting, part-begins, part-first, part-second, part-both, part-ends}
-use borrow.Author.Rules.{rules}
+use Prim.Native.Nat.{◌+◌, ◌-◌}
+use Rattle.rides.specs.PartLaws.{Parting}
 use Rattle.rides.proofs.part.part_keys.Given as goal
 
 abbrev pub invariant-loop-i : goal.invariant-loop-i

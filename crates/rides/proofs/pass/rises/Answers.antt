@@ -1,6 +1,5 @@
 -- `rises` answers by the lengths, and where both lists go on by the numbers.
 use native.Mathlib.Omega.{arith}
-use borrow.Author.Rules.{rules}
 use Rattle.rides.specs.PassLaws.{rise-ended, rise-alone, rise-both}
 use Rattle.rides.proofs.pass.rises.Goals as goal
 

@@ -1,8 +1,6 @@
 -- `run_end` goes on as long as each place goes the same way.
-use Prim.Native.Nat.{◌-◌}
 use native.Mathlib.Omega.{arith}
-use borrow.Author.Rules.{rules}
-use Rattle.rides.specs.PassLaws.{Running, run-begins, run-turns, run-stops, run_ends}
+use Rattle.rides.specs.PassLaws.{run-begins, run-turns, run-stops, run_ends}
 use Rattle.rides.proofs.pass.run_end.Goals as goal
 
 pub loop-x-init : goal.loop-x-init

@@ -1,7 +1,5 @@
 use Prim.Native.Nat.{◌-◌}
-use native.Mathlib.Omega.{arith}
-use borrow.Author.Rules.{rules}
-use Rattle.rides.specs.PassLaws.{Running, run-begins, run-turns, run-stops, run_ends}
+use Rattle.rides.specs.PassLaws.{Running}
 use Rattle.rides.proofs.pass.run_end.Given as goal
 
 abbrev pub invariant-loop-x : goal.invariant-loop-x

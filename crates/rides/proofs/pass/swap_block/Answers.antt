@@ -1,5 +1,4 @@
 -- `swap_block` goes the one way or the other.
-use borrow.Author.Rules.{rules}
 use Rattle.rides.proofs.pass.swap_block.Goals as goal
 
 pub up_block-requires : goal.up_block-requires

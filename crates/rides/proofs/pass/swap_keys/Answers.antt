@@ -1,8 +1,7 @@
 -- `swap_keys` goes from block to block: what lies before a block is done, what lies after it is as it was.
-use Prim.Native.Nat.{◌-◌}
 use native.Mathlib.Omega.{arith}
 use borrow.Author.Rules.{rules}
-use Rattle.rides.specs.PassLaws.{Passing, pass-begins, pass-room, pass-turns, pass-ends}
+use Rattle.rides.specs.PassLaws.{pass-begins, pass-room, pass-turns, pass-ends}
 use Rattle.rides.proofs.pass.swap_keys.Goals as goal
 
 pub loop-m-init : goal.loop-m-init

@@ -1,7 +1,5 @@
 use Prim.Native.Nat.{◌-◌}
-use native.Mathlib.Omega.{arith}
-use borrow.Author.Rules.{rules}
-use Rattle.rides.specs.PassLaws.{Passing, pass-begins, pass-room, pass-turns, pass-ends}
+use Rattle.rides.specs.PassLaws.{Passing}
 use Rattle.rides.proofs.pass.swap_keys.Given as goal
 
 abbrev pub invariant-loop-m : goal.invariant-loop-m

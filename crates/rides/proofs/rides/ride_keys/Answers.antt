@@ -3,7 +3,6 @@
 use native.Mathlib.Omega.{arith}
 use Rattle.order.specs.BufferLaws.{count-front}
 use Rattle.rides.specs.RideLaws.{keys-there, ride-room, ride-few, ridden}
-use borrow.Author.Rules.{rules}
 use Rattle.rides.proofs.rides.ride_keys.Goals as goal
 
 pub swap_changes-requires : goal.swap_changes-requires

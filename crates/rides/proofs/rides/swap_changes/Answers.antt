@@ -2,7 +2,6 @@
 use native.Mathlib.Omega.{arith}
 use Rattle.order.specs.BufferLaws.{count-front}
 use Rattle.rides.specs.RideLaws.{lent-part}
-use borrow.Author.Rules.{rules}
 use Rattle.rides.proofs.rides.swap_changes.Goals as goal
 
 pub slice_bounds-swap_keys-end : goal.slice_bounds-swap_keys-end

@@ -1,6 +1,5 @@
 -- `draw_in` moves a range down, and free marks stand after it.
 use Rattle.rides.specs.SinkLaws.{drawn}
-use borrow.Author.Rules.{rules}
 use Rattle.rides.proofs.sink.draw_in.Goals as goal
 
 pub returns : goal.returns

@@ -1,7 +1,6 @@
 -- `drops_next` compares the next number of either list, where both have one.
 use native.Mathlib.Omega.{arith}
 use Rattle.rides.specs.SinkLaws.{next-taken, next-dropped, next-test}
-use borrow.Author.Rules.{rules}
 use Rattle.rides.proofs.sink.drops_next.Goals as goal
 
 pub returns-then-i-a : goal.returns-then-i-a

@@ -1,7 +1,6 @@
 -- `place_in` counts on from the first place.
 use native.Mathlib.Omega.{arith}
 use Rattle.rides.specs.SinkLaws.{found_in}
-use borrow.Author.Rules.{rules}
 use Rattle.rides.proofs.sink.place_in.Goals as goal
 
 pub returns : goal.returns

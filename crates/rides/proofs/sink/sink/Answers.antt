@@ -1,8 +1,7 @@
 -- `sink` goes from key to key: what lies between two of them moves down by how many more are dropped than taken up.
-use Prim.Native.Nat.{◌+◌, ◌-◌, ◌<◌}
+use Prim.Native.Nat.{◌<◌}
 use native.Mathlib.Omega.{arith}
-use borrow.Author.Rules.{rules}
-use Rattle.rides.specs.SinkLaws.{Sinking, sink_begins, drop-stops, drop-turns, take_left, take-stops, take-turns, sink_ends}
+use Rattle.rides.specs.SinkLaws.{sink_begins, drop-stops, drop-turns, take_left, take-stops, take-turns, sink_ends}
 use Rattle.rides.proofs.sink.sink.Goals as goal
 
 pub loop-entries-init : goal.loop-entries-init

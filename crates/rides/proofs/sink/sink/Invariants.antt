@@ -1,7 +1,5 @@
-use Prim.Native.Nat.{◌+◌, ◌-◌, ◌<◌}
-use native.Mathlib.Omega.{arith}
-use borrow.Author.Rules.{rules}
-use Rattle.rides.specs.SinkLaws.{Sinking, sink_begins, drop-stops, drop-turns, take_left, take-stops, take-turns, sink_ends}
+use Prim.Native.Nat.{◌+◌, ◌-◌}
+use Rattle.rides.specs.SinkLaws.{Sinking}
 use Rattle.rides.proofs.sink.sink.Given as goal
 
 abbrev pub invariant-loop-entries : goal.invariant-loop-entries

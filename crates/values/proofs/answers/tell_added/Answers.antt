@@ -1,5 +1,4 @@
 -- The answer to a zone added is told, case by case.
-use borrow.Author.Rules.{rules}
 use Rattle.values.proofs.answers.tell_added.Goals as goal
 
 pub returns-in-Refused : goal.returns-in-Refused

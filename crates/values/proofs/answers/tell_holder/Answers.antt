@@ -1,5 +1,4 @@
 -- How a zone stands between the teams, told case by case.
-use borrow.Author.Rules.{rules}
 use Rattle.values.proofs.answers.tell_holder.Goals as goal
 
 pub returns-in-Refused : goal.returns-in-Refused

@@ -1,5 +1,4 @@
 -- The answer to soundness is told, case by case.
-use borrow.Author.Rules.{rules}
 use Rattle.values.proofs.answers.tell_soundness.Goals as goal
 
 pub returns-in-Refused : goal.returns-in-Refused

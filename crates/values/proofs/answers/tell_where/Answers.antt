@@ -1,6 +1,5 @@
 -- Where a car is, told case by case.
 use mathlib.Core.Path.{refl}
-use borrow.Author.Rules.{rules}
 use Rattle.values.proofs.answers.tell_where.Goals as goal
 
 pub returns-in-Refused : goal.returns-in-Refused

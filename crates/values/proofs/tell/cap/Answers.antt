@@ -1,7 +1,6 @@
 -- A number that fits in 32 bits is kept, a larger one is the largest.
 use Rattle.values.specs.TellLaws.{capped_small, capped-large}
 use mathlib.Core.Path.{sym}
-use borrow.Author.Rules.{rules}
 use Rattle.values.proofs.tell.cap.Goals as goal
 
 pub returns-then-n-le4294967295 : goal.returns-then-n-le4294967295

@@ -1,7 +1,6 @@
 -- A coordinate is stored where there is a place for it.
 use lib.Seq.{set_out}
 use mathlib.Core.Path.{sym}
-use borrow.Author.Rules.{rules}
 use Rattle.values.proofs.tell.point.Goals as goal
 
 pub returns-else-at-position : goal.returns-else-at-position

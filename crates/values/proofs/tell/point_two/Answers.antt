@@ -1,5 +1,4 @@
 -- Two coordinates are stored one after the other.
-use borrow.Author.Rules.{rules}
 use Rattle.values.proofs.tell.point_two.Goals as goal
 
 pub returns : goal.returns

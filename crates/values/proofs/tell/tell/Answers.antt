@@ -1,5 +1,4 @@
 -- A value is capped and stored.
-use borrow.Author.Rules.{rules}
 use Rattle.values.proofs.tell.tell.Goals as goal
 
 pub returns : goal.returns

@@ -1,6 +1,5 @@
 -- Four values are stored one after the other.
 use mathlib.Core.Path.{refl}
-use borrow.Author.Rules.{rules}
 use Rattle.values.proofs.tell.tell_four.Goals as goal
 
 pub returns : goal.returns

@@ -1,6 +1,5 @@
 -- Nine values are stored one after the other.
 use mathlib.Core.Path.{refl}
-use borrow.Author.Rules.{rules}
 use Rattle.values.proofs.tell.tell_nine.Goals as goal
 
 pub returns : goal.returns

@@ -1,6 +1,5 @@
 -- Two values are stored one after the other.
 use mathlib.Core.Path.{refl}
-use borrow.Author.Rules.{rules}
 use Rattle.values.proofs.tell.tell_two.Goals as goal
 
 pub returns : goal.returns

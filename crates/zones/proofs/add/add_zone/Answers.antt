@@ -3,11 +3,10 @@ use Prim.Native.Nat.{◌-◌, ◌<◌}
 use mathlib.Core.Path.{refl, sym, ◌∙◌}
 use native.Mathlib.Omega.{arith}
 use lib.ListN.{length, get_or}
-use Rattle.tables.specs.Tables.{Tables, tables}
+use Rattle.tables.specs.Tables.{tables}
 use Rattle.model.specs.Model.{meaning}
 use Rattle.promises.specs.PromiseLaws.{keeps-refused}
 use Rattle.zones.specs.AddLaws.{New, new-zone, record-there, cut-room, keys-there, row-there, cars-there, add-full, add_kept}
-use borrow.Author.Rules.{rules}
 use Rattle.zones.proofs.add.add_zone.Goals as goal
 
 pub returns-then-refusal-ne0 : goal.returns-then-refusal-ne0

@@ -1,17 +1,15 @@
 -- `refuse_new` gives the number of the first of four tests that fails: check 3, the zone's number, that it does not stand, the rectangle.
-use Prim.Native.Nat.{◌<◌}
-use mathlib.Core.Bool.{Bool, true, false, not}
+use mathlib.Core.Bool.{true, not}
 use mathlib.Core.Path.{◌≡◌, ap, sym, ◌∙◌}
 use native.Mathlib.Omega.{arith}
 use Rattle.squares.specs.declared.shape.Shape.{Shape}
 use Rattle.squares.specs.Shape.{fits}
 use Rattle.squares.specs.RefusalLaws.{stops, holds, fails, below, beyond}
 use Rattle.model.specs.Model.{known, meaning}
-use Rattle.tables.specs.Tables.{Tables, tables, shape_of, zone_in}
+use Rattle.tables.specs.Tables.{tables, shape_of, zone_in}
 use Rattle.tables.specs.Check.{sized}
 use Rattle.tables.specs.CheckLaws.{sized→}
 use Rattle.tables.specs.RecordLaws.{zone-known}
-use borrow.Author.Rules.{rules}
 use Rattle.zones.proofs.add.refuse_new.Goals as goal
 
 pub returns-then-not-sized : goal.returns-then-not-sized

@@ -1,12 +1,11 @@
 -- `open_town` sets each table to its one number, past the refusals.
 use mathlib.Core.Path.{◌≡◌, refl, sym, ◌∙◌}
-use Rattle.tables.specs.Tables.{Tables, tables}
+use Rattle.tables.specs.Tables.{tables}
 use Rattle.model.specs.Model.{opening, meaning}
 use Rattle.promises.specs.Events.{asked}
 use Rattle.promises.specs.Promise.{bars}
 use Rattle.promises.specs.PromiseLaws.{keeps-refused}
 use Rattle.zones.specs.OpenLaws.{open-long, open_kept}
-use borrow.Author.Rules.{rules}
 use Rattle.zones.proofs.open.open_town.Goals as goal
 
 pub returns-then-refusal-ne0 : goal.returns-then-refusal-ne0

@@ -6,10 +6,9 @@ use Rattle.squares.specs.Shape.{allowed, shape}
 use Rattle.squares.specs.ShapeLaws.{allowed→, shaped→, not-shaped}
 use Rattle.squares.specs.RefusalLaws.{stops, holds, fails}
 use Rattle.model.specs.Model.{roomy, meaning}
-use Rattle.tables.specs.Tables.{Tables, tables}
+use Rattle.tables.specs.Tables.{tables}
 use Rattle.tables.specs.Check.{long}
 use Rattle.tables.specs.CheckLaws.{roomy→}
-use borrow.Author.Rules.{rules}
 use Rattle.zones.proofs.open.refuse_open.Goals as goal
 
 pub returns-in_default : goal.returns-in_default

@@ -1,13 +1,12 @@
 -- `remove_zone` clears the zone's record, its keys, its row and its count, past the refusals.
 use mathlib.Core.Path.{refl, sym, ◌∙◌}
 use native.Mathlib.Omega.{arith}
-use Rattle.tables.specs.Tables.{Tables, tables}
+use Rattle.tables.specs.Tables.{tables}
 use Rattle.model.specs.Model.{meaning}
 use Rattle.promises.specs.PromiseLaws.{keeps-refused}
 use Rattle.tables.specs.TallyLaws.{tally-in}
 use Rattle.promises.specs.StandingLaws.{There, zone-there}
 use Rattle.zones.specs.RemoveLaws.{record-there, row-there, keys-there, remove-kept}
-use borrow.Author.Rules.{rules}
 use Rattle.zones.proofs.remove.remove_zone.Goals as goal
 
 pub returns-then-refusal-ne0 : goal.returns-then-refusal-ne0

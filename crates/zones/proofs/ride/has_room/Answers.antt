@@ -5,7 +5,6 @@ use Rattle.squares.specs.Shape.{fits}
 use Rattle.squares.specs.ShapeLaws.{fits→}
 use Rattle.squares.specs.RefusalLaws.{holds, fails}
 use Rattle.zones.specs.RideLaws.{room-none, room-short, room-told}
-use borrow.Author.Rules.{rules}
 use Rattle.zones.proofs.ride.has_room.Goals as goal
 
 pub returns-then-not-fits : goal.returns-then-not-fits

@@ -1,18 +1,15 @@
 -- `refuse_ride` asks what every call on a standing zone asks, then where the zone goes, then for room in two buffers.
 use mathlib.Core.Path.{◌≡◌, refl, sym, ◌∙◌}
-use mathlib.Core.List.{List}
 use native.Mathlib.Omega.{arith}
 use borrow.Author.Tests.{ltb-true}
 use Rattle.squares.specs.Ride.{lands}
-use Rattle.squares.specs.Refusals.{Bar}
 use Rattle.squares.specs.RefusalLaws.{Clear, clear, before, after, holds, fails, enough, short}
 use Rattle.model.specs.Model.{there, removing, meaning}
-use Rattle.tables.specs.Tables.{Tables, tables, shape_of, zone_room, zone_in}
+use Rattle.tables.specs.Tables.{tables, shape_of, zone_room, zone_in}
 use Rattle.tables.specs.Sizes.{Sized}
 use Rattle.tables.specs.CheckLaws.{sized→}
 use Rattle.promises.specs.Promise.{means}
 use Rattle.zones.specs.RideLaws.{rides-plain, lands-told}
-use borrow.Author.Rules.{rules}
 use Rattle.zones.proofs.ride.refuse_ride.Goals as goal
 
 pub returns-then-refusal-ne0 : goal.returns-then-refusal-ne0

@@ -6,12 +6,11 @@ use lib.ListN.{length, get_or}
 use Rattle.squares.specs.Slide.{Rides}
 use Rattle.squares.specs.ShapeLaws.{squares-few}
 use Rattle.squares.specs.RefusalLaws.{holds, fails}
-use Rattle.tables.specs.Tables.{Tables, tables}
+use Rattle.tables.specs.Tables.{tables}
 use Rattle.model.specs.Model.{riding, meaning}
 use Rattle.promises.specs.Promise.{bars}
 use Rattle.promises.specs.PromiseLaws.{keeps-refused}
 use Rattle.zones.specs.RideLaws.{Mover, mover, bars-plain, rides-plain, record-there, fit, few-there, allowed, row-there, cars-there, keys-there, ride-full, ride-kept}
-use borrow.Author.Rules.{rules}
 use Rattle.zones.proofs.ride.ride_zone.Goals as goal
 
 pub returns-then-refusal-ne0 : goal.returns-then-refusal-ne0
