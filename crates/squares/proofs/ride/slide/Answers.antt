@@ -1,3 +1,4 @@
+use Rattle.std.proofs.Common.{rules}
 use Rattle.squares.specs.RideLaws.{slide-below, slide-past, slide-casts, slide-is}
 use Rattle.squares.proofs.ride.slide.Goals as goal
 
@@ -8,7 +9,7 @@ pub returns-then-sum-gt256 : goal.returns-then-sum-gt256
 returns-then-sum-gt256 c = slide-past c.ranges.a c.ranges.d c.sum_of-sum.ensures c.if-sum-gt256.true
 
 pub overflow_cast-result : goal.overflow_cast-result
-overflow_cast-result c = slide-casts c.ranges.a c.ranges.d c.sum_of-sum.ensures c.if-sum-lt0.false c.if-sum-gt256.false
+overflow_cast-result c = slide-casts c.ranges.a c.ranges.d c.sum_of-sum.ensures (search rules) c.if-sum-gt256.false
 
 pub returns : goal.returns
-returns c = slide-is c.ranges.a c.ranges.d c.sum_of-sum.ensures c.if-sum-lt0.false c.if-sum-gt256.false
+returns c = slide-is c.ranges.a c.ranges.d c.sum_of-sum.ensures (search rules) c.if-sum-gt256.false
