@@ -4,7 +4,7 @@ use denote.Triple.Both.{Both}
 use Rattle.order.specs.Order.{over}
 use Rattle.squares.specs.Refusals.{Bar, first}
 use Rattle.tables.specs.Tables.{Tables, tally, town_of}
-use Rattle.season.specs.Output.{Line, line_of, reply}
+use Rattle.season.specs.Output.{line_of, reply}
 use Rattle.room.specs.Room.{Ready}
 use Rattle.records.specs.Replies.{tables_after}
 use Rattle.pieces.specs.declared.pieces.Filling.{Filling}

@@ -1,5 +1,5 @@
 -- Document 01's whole case, to the byte.
-use Rattle.std.specs.Prelude.{ℕ, ◌≡◌, refl, List, [], ◌∷◌, ◌++◌}
+use Rattle.std.specs.Prelude.{ℕ, ◌≡◌, refl, List, [], ◌∷◌}
 use Rattle.std.specs.Float.Ieee.{of_bits, to_bits, is_nan}
 use Rattle.order.specs.Order.{span, keep}
 use Rattle.order.specs.Sums.{sum}

@@ -1,7 +1,5 @@
 -- Two numbers are stored one after the other.
 use mathlib.Core.Path.{refl}
-use borrow.Author.Rules.{rules}
-use borrow.Author.Rules.{rules}
 use Rattle.boundary.proofs.log.say.Goals as goal
 
 pub returns : goal.returns

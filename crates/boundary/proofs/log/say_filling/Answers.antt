@@ -1,6 +1,4 @@
 -- What a call on the log answers is said, case by case.
-use borrow.Author.Rules.{rules}
-use borrow.Author.Rules.{rules}
 use Rattle.boundary.proofs.log.say_filling.Goals as goal
 
 pub returns-in-Refused : goal.returns-in-Refused

@@ -1,8 +1,6 @@
 -- `store` stores a number where the array has the place, and else changes nothing.
 use mathlib.Core.Path.{sym}
 use lib.Seq.{set_out}
-use borrow.Author.Rules.{rules}
-use borrow.Author.Rules.{rules}
 use Rattle.boundary.proofs.log.store.Goals as goal
 
 pub returns-else-at-values : goal.returns-else-at-values

@@ -1,6 +1,5 @@
 -- The cut of a rectangle is the one result: the buffer is its, and the count is told.
 use Rattle.boundary.specs.GivesLaws.{gives}
-use borrow.Author.Rules.{rules}
 use Rattle.boundary.proofs.shapes.unwadegiro_cut.Goals as goal
 
 pub returns : goal.returns

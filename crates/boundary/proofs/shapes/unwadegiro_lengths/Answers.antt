@@ -2,7 +2,6 @@
 use mathlib.Core.Bool.{true}
 use mathlib.Core.Path.{◌≡◌}
 use native.Mathlib.Nat.{mul-le-mul}
-use Rattle.squares.specs.declared.shape.Shape.{Shape}
 use Rattle.squares.specs.Shape.{allowed, shape}
 use Rattle.squares.specs.ShapeLaws.{allowed→, shaped→, not-shaped}
 use Rattle.squares.specs.RefusalLaws.{holds, fails}

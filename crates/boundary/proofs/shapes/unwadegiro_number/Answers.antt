@@ -1,6 +1,5 @@
 -- The number of a square is the one result, told.
 use Rattle.boundary.specs.GivesLaws.{gives}
-use borrow.Author.Rules.{rules}
 use Rattle.boundary.proofs.shapes.unwadegiro_number.Goals as goal
 
 pub returns : goal.returns

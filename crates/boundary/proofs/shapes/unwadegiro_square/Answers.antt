@@ -1,6 +1,5 @@
 -- The square of a number is the one result, told.
 use Rattle.boundary.specs.GivesLaws.{gives}
-use borrow.Author.Rules.{rules}
 use Rattle.boundary.proofs.shapes.unwadegiro_square.Goals as goal
 
 pub returns : goal.returns

@@ -1,6 +1,5 @@
 -- The ride beneath keeps its promise for the numbers that were lent, and its answer is told.
 use Rattle.boundary.specs.RideLaws.{ride-kept}
-use borrow.Author.Rules.{rules}
 use Rattle.boundary.proofs.town.unwadegiro_ride.Goals as goal
 
 pub returns : goal.returns

@@ -1,5 +1,4 @@
 -- `answer_line` answers a line that has ended, and writes nothing of another.
-use borrow.Author.Rules.{rules}
 use borrow.Author.Tests.{not-true, not-false}
 use Rattle.pieces.specs.PieceLaws.{answers-none, answers-step}
 use Rattle.pieces.proofs.pieces.answer_line.Goals as goal

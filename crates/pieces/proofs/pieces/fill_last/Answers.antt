@@ -2,7 +2,6 @@
 use native.Mathlib.Omega.{arith}
 use Rattle.order.specs.BufferLaws.{count-front}
 use Rattle.pieces.specs.PieceLaws.{ends}
-use borrow.Author.Rules.{rules}
 use Rattle.pieces.proofs.pieces.fill_last.Goals as goal
 
 pub slice_bounds-answer_line-end-2 : goal.slice_bounds-answer_line-end-2

@@ -1,12 +1,8 @@
 -- `fill_lines` takes line after line out of the piece, and answers it.
-use Prim.Native.Nat.{◌-◌}
 use mathlib.Core.Path.{◌∙◌}
 use native.Mathlib.Omega.{arith}
-use lib.ListN.{length}
-use borrow.Author.Rules.{rules}
 use Rattle.order.specs.BufferLaws.{count-front}
-use Rattle.tables.specs.Tables.{tables}
-use Rattle.pieces.specs.PieceLaws.{Walking, walk_begins, walk-turns, walk_ends}
+use Rattle.pieces.specs.PieceLaws.{walk_begins, walk-turns, walk_ends}
 use Rattle.pieces.proofs.pieces.fill_lines.Goals as goal
 
 pub loop-held-init : goal.loop-held-init

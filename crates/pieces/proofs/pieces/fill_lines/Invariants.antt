@@ -1,11 +1,7 @@
 use Prim.Native.Nat.{◌-◌}
-use mathlib.Core.Path.{◌∙◌}
-use native.Mathlib.Omega.{arith}
 use lib.ListN.{length}
-use borrow.Author.Rules.{rules}
-use Rattle.order.specs.BufferLaws.{count-front}
 use Rattle.tables.specs.Tables.{tables}
-use Rattle.pieces.specs.PieceLaws.{Walking, walk_begins, walk-turns, walk_ends}
+use Rattle.pieces.specs.PieceLaws.{Walking}
 use Rattle.pieces.proofs.pieces.fill_lines.Given as goal
 
 abbrev pub invariant-loop-held : goal.invariant-loop-held

@@ -1,10 +1,8 @@
 -- `keep_held` has set the bytes up to i to 0.
-use Prim.Native.Nat.{◌-◌}
 use mathlib.Core.Path.{sym, ◌∙◌}
 use native.Mathlib.Omega.{arith}
 use lib.ListN.{length-set}
-use borrow.Author.Rules.{rules}
-use Rattle.pieces.specs.PieceLaws.{Zeroed, zero-begins, zero-turns, zero-ends}
+use Rattle.pieces.specs.PieceLaws.{zero-begins, zero-turns, zero-ends}
 use Rattle.pieces.proofs.pieces.keep_held.Goals as goal
 
 pub loop-i-init : goal.loop-i-init

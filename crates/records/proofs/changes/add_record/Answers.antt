@@ -5,7 +5,6 @@ use lib.ListN.{length}
 use Rattle.order.specs.BufferLaws.{count-front}
 use Rattle.records.specs.CallLaws.{few-added}
 use Rattle.records.specs.ReplyLaws.{lent-within, changed-back, tamed-replies}
-use borrow.Author.Rules.{rules}
 use Rattle.records.proofs.changes.add_record.Goals as goal
 
 pub slice_bounds-add_zone-end : goal.slice_bounds-add_zone-end

@@ -4,7 +4,6 @@ use mathlib.Core.Path.{refl}
 use lib.ListN.{length}
 use Rattle.order.specs.BufferLaws.{count-front}
 use Rattle.records.specs.ReplyLaws.{lent-within, read_back, call-replies}
-use borrow.Author.Rules.{rules}
 use Rattle.records.proofs.changes.leave_record.Goals as goal
 
 pub slice_bounds-leave_map-end : goal.slice_bounds-leave_map-end

@@ -1,12 +1,11 @@
 -- `open_record` writes a refusal, and opens any other town in as many starts as it needs.
-use Prim.Native.Nat.{ℕ, ◌≤◌}
+use Prim.Native.Nat.{◌≤◌}
 use mathlib.Core.Path.{subst}
 use lib.ListN.{length}
 use Rattle.order.specs.BufferLaws.{count-front}
 use Rattle.room.specs.declared.room.RoomFor.TheVariants.{Refused, Starts}
 use Rattle.room.specs.Leaves.{OpenRoom}
 use Rattle.records.specs.ReplyLaws.{changed-back, open-refused, open-within, open-replies}
-use borrow.Author.Rules.{rules}
 use Rattle.records.proofs.changes.open_record.Goals as goal
 
 pub slice_bounds-open_town-end : goal.slice_bounds-open_town-end

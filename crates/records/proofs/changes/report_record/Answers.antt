@@ -9,7 +9,6 @@ use Rattle.model.specs.Model.{reporting}
 use Rattle.texts.specs.Texts.{Letter}
 use Rattle.season.specs.Output.{blank}
 use Rattle.records.specs.ReplyLaws.{lent-within, read_back, replies-as, call-replies}
-use borrow.Author.Rules.{rules}
 use Rattle.records.proofs.changes.report_record.Goals as goal
 
 pub slice_bounds-report_car-end : goal.slice_bounds-report_car-end

@@ -6,7 +6,6 @@ use Rattle.order.specs.BufferLaws.{count-front}
 use Rattle.season.specs.Output.{blank}
 use Rattle.records.specs.CallLaws.{few-roster}
 use Rattle.records.specs.ReplyLaws.{lent-within, read_back, tamed-replies}
-use borrow.Author.Rules.{rules}
 use Rattle.records.proofs.looks.roster_record.Goals as goal
 
 pub slice_bounds-roster_of_zone-end : goal.slice_bounds-roster_of_zone-end

@@ -1,6 +1,5 @@
 -- `answer_end` is refused, or answers what is held.
 use Rattle.pieces.specs.PromiseLaws.{lending, fills-refused, fills-passed}
-use borrow.Author.Rules.{rules}
 use Rattle.replay.proofs.answers.answer_end.Goals as goal
 
 pub returns-then-refused-ne0 : goal.returns-then-refused-ne0

@@ -1,6 +1,5 @@
 -- `answer_piece` is refused, or answers line after line.
 use Rattle.pieces.specs.PromiseLaws.{lending, fills-refused, fills-passed}
-use borrow.Author.Rules.{rules}
 use Rattle.replay.proofs.answers.answer_piece.Goals as goal
 
 pub returns-then-refused-ne0 : goal.returns-then-refused-ne0

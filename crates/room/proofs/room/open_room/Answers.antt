@@ -3,11 +3,9 @@ use Prim.Native.Nat.{◌≤◌}
 use mathlib.Core.Path.{◌≡◌}
 use mathlib.Core.Bool.{true}
 use native.Mathlib.Omega.{arith}
-use Rattle.squares.specs.declared.shape.Shape.{Shape}
 use Rattle.squares.specs.Shape.{shape, allowed, width, height}
 use Rattle.squares.specs.ShapeLaws.{allowed→, shaped→, not-shaped}
 use Rattle.room.specs.OpenLaws.{beyond-1, too_wide, too-high, let-in}
-use borrow.Author.Rules.{rules}
 use Rattle.room.proofs.room.open_room.Goals as goal
 
 pub returns-in_default : goal.returns-in_default

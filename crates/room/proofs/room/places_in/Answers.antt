@@ -10,7 +10,6 @@ use Rattle.squares.specs.Squares.{squares}
 use Rattle.squares.specs.ShapeLaws.{allowed→}
 use Rattle.room.specs.Room.{places_of}
 use Rattle.room.specs.RoomLaws.{places-none, places-some}
-use borrow.Author.Rules.{rules}
 use Rattle.room.proofs.room.places_in.Goals as goal
 
 pub returns-then-not-allowed : goal.returns-then-not-allowed

@@ -1,5 +1,4 @@
 -- `position_of` makes a float of each coordinate's bits.
-use borrow.Author.Rules.{rules}
 use Rattle.room.proofs.room.position_of.Goals as goal
 
 pub returns : goal.returns

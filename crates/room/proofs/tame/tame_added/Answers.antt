@@ -1,7 +1,6 @@
 -- `tame_added` keeps a refusal and small numbers, and answers the greatest for others.
 use mathlib.Core.Path.{refl, ap}
 use native.Mathlib.Omega.{arith}
-use borrow.Author.Rules.{rules}
 use Rattle.model.specs.Answers.{added_is}
 use Rattle.room.specs.TameLaws.{tame-stays, tame-made}
 use Rattle.room.proofs.tame.tame_added.Goals as goal

@@ -1,7 +1,6 @@
 -- `tame_roster` keeps a refusal and a small count, and answers the greatest for another.
 use mathlib.Core.Path.{refl, ap}
 use native.Mathlib.Omega.{arith}
-use borrow.Author.Rules.{rules}
 use Rattle.model.specs.Answers.{roster_is}
 use Rattle.room.specs.TameLaws.{tame-stays, tame-made}
 use Rattle.room.proofs.tame.tame_roster.Goals as goal

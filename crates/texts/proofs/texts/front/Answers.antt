@@ -1,6 +1,5 @@
 -- `front` answers the count, or the list's length where that is smaller.
 use Rattle.texts.specs.FrontLaws.{fronts-all}
-use borrow.Author.Rules.{rules}
 use Rattle.texts.proofs.texts.front.Goals as goal
 
 pub returns : goal.returns

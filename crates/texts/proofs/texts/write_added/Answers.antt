@@ -3,7 +3,6 @@ use Rattle.model.specs.Answers.{added_is}
 use native.Mathlib.Omega.{arith}
 use Rattle.texts.specs.Texts.{Letter}
 use Rattle.texts.specs.SaidLaws.{said-text, said-few}
-use borrow.Author.Rules.{rules}
 use Rattle.texts.proofs.texts.write_added.Goals as goal
 
 pub overflow_cast-squares : goal.overflow_cast-squares

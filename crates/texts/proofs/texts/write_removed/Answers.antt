@@ -2,7 +2,6 @@
 use Rattle.model.specs.Answers.{removed_is}
 use Rattle.texts.specs.Texts.{Letter}
 use Rattle.texts.specs.SaidLaws.{said-text}
-use borrow.Author.Rules.{rules}
 use Rattle.texts.proofs.texts.write_removed.Goals as goal
 
 pub returns-in-Refused : goal.returns-in-Refused

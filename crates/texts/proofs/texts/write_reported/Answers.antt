@@ -4,7 +4,6 @@ use Rattle.model.specs.Answers.{reported_is}
 use Rattle.texts.specs.Texts.{Letter}
 use Rattle.texts.specs.FrontLaws.{fronts-count, fronts-few}
 use Rattle.texts.specs.SaidLaws.{said-text}
-use borrow.Author.Rules.{rules}
 use Rattle.texts.proofs.texts.write_reported.Goals as goal
 
 pub slice_bounds-write_lists-end : goal.slice_bounds-write_lists-end

@@ -4,7 +4,6 @@ use Rattle.model.specs.Answers.{roster_is}
 use Rattle.texts.specs.Texts.{Letter}
 use Rattle.texts.specs.FrontLaws.{fronts-count, fronts-few}
 use Rattle.texts.specs.SaidLaws.{said-text, said-few}
-use borrow.Author.Rules.{rules}
 use Rattle.texts.proofs.texts.write_roster.Goals as goal
 
 pub overflow_cast-count : goal.overflow_cast-count

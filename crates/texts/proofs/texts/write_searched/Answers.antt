@@ -4,7 +4,6 @@ use Rattle.model.specs.Answers.{searched_is}
 use Rattle.texts.specs.Texts.{Letter}
 use Rattle.texts.specs.FrontLaws.{fronts-count, fronts-few}
 use Rattle.texts.specs.SaidLaws.{said-text}
-use borrow.Author.Rules.{rules}
 use Rattle.texts.proofs.texts.write_searched.Goals as goal
 
 pub slice_bounds-write_list-end : goal.slice_bounds-write_list-end
