@@ -8,7 +8,7 @@ use Rattle.std.proofs.Math.ListN.{length, get_or-append}
 use Rattle.std.proofs.lemmas.List.Edits.{sets}
 use Rattle.std.proofs.Math.Seq.{drop-append-add}
 use borrow.Author.Tests.{leb-true, eq-eqb, ne_eqb}
-use Rattle.order.specs.Order.{span, upto}
+use Rattle.order.specs.Order.{span, upto, keep}
 use Rattle.order.specs.Buffer.{rank}
 use Rattle.order.specs.RankLaws.{rank-keep}
 use Rattle.order.specs.TestLaws.{lt-or-le, true-or-false, true-not-false, and→, same-or-other}
@@ -21,7 +21,7 @@ use Rattle.squares.specs.ShapeLaws.{squares-few}
 use Rattle.cuts.specs.Cut.{in_cut, cut}
 use Rattle.model.specs.Model.{Town, holds_car, roster, cut_size, entries_used, zone_on, after, except}
 use Rattle.tables.specs.Tables.{Tables, tables, tally, shape_of, zone_room, car_room, entry_room, rect_of, stands, placed, town_of}
-use Rattle.tables.specs.Derived.{on, level_at, number_at, keys_to, used, free, entries_of, starts_of, rosters_of}
+use Rattle.tables.specs.Derived.{on, level_at, number_at, keys_to, used, free, entries_of, starts_of, rosters_of, tallies_of}
 use Rattle.tables.specs.Sound.{Sound}
 use Rattle.tables.specs.Steps.{zoned, with_zone, step}
 use Rattle.tables.specs.RecordLaws.{zone-out, entries-fresh}
@@ -40,7 +40,7 @@ use Rattle.order.specs.SumLaws.{sum_one}
 use Rattle.starts.specs.RankLaws.{rank-start}
 use Rattle.entries.specs.KeyLaws.{keys-rise, keys→, →keys, length-keys}
 use Rattle.edits.specs.DropLaws.{length-parts}
-use Rattle.edits.specs.PlacedLaws.{record-there, few, keys_on, within, row_now, row-placed, tally-placed, standing}
+use Rattle.edits.specs.PlacedLaws.{record-there, few, keys_on as keys-placed, within, row_now, row-placed, tally-placed, standing}
 use Rattle.edits.specs.StepLaws.{fresh-sound}
 
 -- ---- free marks
@@ -137,6 +137,10 @@ module _ (t : Tables) (sound : Sound t) (z : ℕ) (there : z < zone_room t) (dow
 
   -- ---- the starts
 
+  -- the new keys are those of zone z
+  keys_on : keys ≡ keep (λ (x : ℕ). on added x && of_zone z x) (upto (squares (shape_of t) * 256))
+  keys_on = keys-placed t sound z there r fit
+
   -- without the new keys the keys are as before
   on-other : (x : ℕ) → (on added x && of_other z x) ≡ on t x
   on-other x = ⊎_elim
@@ -150,7 +154,7 @@ module _ (t : Tables) (sound : Sound t) (z : ℕ) (there : z < zone_room t) (dow
       let own_keys = keep-keep (of_zone z) (on added) (upto (p * 256)) in
       let old-keys = keep-keep (of_other z) (on added) (upto (p * 256)) ∙ keep-ext (λ (x : ℕ). on added x && of_other z x) (on t) (upto (p * 256)) (λ x m. on-other x) in
       length-parts z (keys_to added p)
-      ∙ ap₂ ◌+◌ (ap length old-keys) (ap length own_keys ∙ sym (rank-keep (λ (x : ℕ). on added x && of_zone z x) (p * 256) (squares (shape_of t) * 256) (omega arith)) ∙ ap (rank (p * 256)) (sym (keys_on t sound z there r fit)))
+      ∙ ap₂ ◌+◌ (ap length old-keys) (ap length own_keys ∙ sym (rank-keep (λ (x : ℕ). on added x && of_zone z x) (p * 256) (squares (shape_of t) * 256) (omega arith)) ∙ ap (rank (p * 256)) (sym keys_on))
 
   starts-added : (s e : List ℕ) → KeysAdded (shape_of t) r z (length (used t)) t.derived.starts s t.derived.entries e → s ≡ starts_of added
   starts-added s e k =
@@ -168,6 +172,13 @@ module _ (t : Tables) (sound : Sound t) (z : ℕ) (there : z < zone_room t) (dow
   pub cars-added : count_in (shape_of t) t.records.cars t.records.spots r (car_room t) ≡ length (roster (after (zone_on z r) (town_of t)) z)
   cars-added = ap length (keep-ext (car_within (shape_of t) t.records.cars t.records.spots r) (holds_car (after (zone_on z r) (town_of t)) z) (upto (car_room t)) (λ c m. within t sound z there r fit c))
 
+  -- its row, and its numbers counted by its row
+  row-added : sets t.derived.rosters (z * car_room t) (row_in (shape_of t) t.records.cars t.records.spots r (car_room t)) ≡ rosters_of added
+  row-added = row-placed t sound z there r fit
+
+  tally-added : sets t.derived.tallies (z * tally) (counted t.records.cars (row_now t sound z there r fit) (z * car_room t) (car_room t)) ≡ tallies_of added
+  tally-added = tally-placed t sound z there r fit
+
   -- ---- the step
 
   pub add-sound : leb (entries_used (town_of t) + length (cut (shape_of t) r)) (entry_room t) ≡ true → Sound (step (zone_on z r) t)
@@ -181,5 +192,5 @@ module _ (t : Tables) (sound : Sound t) (z : ℕ) (there : z < zone_room t) (dow
       let entries = entries-added e k.merged in
       let starts = starts-added s e k in
       ap (λ (l : List ℕ). tables t.records.head w t.records.cars t.records.spots l e (sets t.derived.rosters (z * car_room t) (row_in (shape_of t) t.records.cars t.records.spots r (car_room t))) (sets t.derived.tallies (z * tally) (counted t.records.cars (row_now t sound z there r fit) (z * car_room t) (car_room t)))) starts
-      ∙ ap₂ (λ (l m : List ℕ). tables t.records.head w t.records.cars t.records.spots (starts_of added) l m (sets t.derived.tallies (z * tally) (counted t.records.cars (row_now t sound z there r fit) (z * car_room t) (car_room t)))) entries (row-placed t sound z there r fit)
-      ∙ ap (λ (l : List ℕ). tables t.records.head w t.records.cars t.records.spots (starts_of added) (entries_of added) (rosters_of added) l) (tally-placed t sound z there r fit)
+      ∙ ap₂ (λ (l m : List ℕ). tables t.records.head w t.records.cars t.records.spots (starts_of added) l m (sets t.derived.tallies (z * tally) (counted t.records.cars (row_now t sound z there r fit) (z * car_room t) (car_room t)))) entries row-added
+      ∙ ap (λ (l : List ℕ). tables t.records.head w t.records.cars t.records.spots (starts_of added) (entries_of added) (rosters_of added) l) tally-added

@@ -57,6 +57,9 @@ module _ {s : Shape} {r : Rect} {z : ℕ} {starts starts' : List ℕ} {n : ℕ} 
     moved-within : n ≤ length l
     moved-within = omega (arith, m.long, starts-long, w.within)
 
+    counted-long : length f ≡ n
+    counted-long = anew-long n e l moved-within counted
+
     pub counted-all : length (f ++ drop n l) ≡ length starts
     counted-all = anew-all n e l moved-within counted ∙ m.long ∙ starts-long
 

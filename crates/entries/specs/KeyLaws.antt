@@ -27,7 +27,7 @@ use Rattle.starts.specs.Starts.{ranks}
 use Rattle.starts.specs.Shift.{plus, Moved}
 use Rattle.entries.specs.Merge.{Merged}
 use Rattle.entries.specs.FrontLaws.{keys-shown, starts-kept, starts-long, counted-all, counted-front, moved-after}
-use Rattle.entries.specs.Keys.{code_place, code_key, zone_keys, Coded, KeyRoom, Keyed, AddRoom, KeysAdded}
+use Rattle.entries.specs.Keys.{code_place, code_key, zone_keys, Coded, KeyRoom, KeySpace, Keyed, AddRoom, KeysAdded}
 
 -- ---- shifted spans
 
@@ -126,17 +126,23 @@ module _ (s : Shape) (r : Rect) (allowed : Allowed s) where
 abbrev pub key_at : Shape → ℕ → List ℕ → ℕ → ℕ
 key_at s z codes i = code_key s z (slice_index codes i)
 
+pub key-space : {s : Shape} {r : Rect} {z : ℕ} {b : List ℕ} → KeyRoom s r z b → KeySpace s r z b
+key-space {s} {r} k = record { shape = k.shape; rect = k.rect; zone = k.zone; room = omega (arith, cut-few s r k.shape, k.room) }
+
 -- the cut stored at the front of a buffer, and its squares turned into keys
-module _ {s : Shape} {r : Rect} {z : ℕ} {b : List ℕ} (k : KeyRoom s r z b) where
+module _ {s : Shape} {r : Rect} {z : ℕ} {b : List ℕ} (k : KeySpace s r z b) where
+  cut_fits : length (cut s r) ≤ length b
+  cut_fits = k.room
+
   module _ {b' : List ℕ} {n : ℕ} (w : Wrote b b' 0 n (cut s r)) where
     pub cut-count : n ≡ length (cut s r)
     cut-count = w.next ∙ zero-add (length (cut s r))
 
     pub cut-shown : take n b' ≡ cut s r
-    cut-shown = rw (wrote-over w k.room, cut-count) (take-over (cut s r) b)
+    cut-shown = rw (wrote-over w cut_fits, cut-count) (take-over (cut s r) b)
 
     pub keys-fit : n ≤ length b'
-    keys-fit = omega (arith, cut-count, k.room, wrote-length w)
+    keys-fit = omega (arith, cut-count, cut_fits, wrote-length w)
 
     pub codes-there : (i : ℕ) → i < length (take n b') → Coded s z (slice_index (take n b') i)
     codes-there i h = rw cut-shown (cut-coded s r k.shape z k.zone (slice_index (cut s r) i) (member-at (cut s r) i (rw cut-shown at h)))
@@ -145,8 +151,8 @@ module _ {s : Shape} {r : Rect} {z : ℕ} {b : List ℕ} (k : KeyRoom s r z b) w
     keys-written l e =
         let m : l ≡ zone_keys s r z = e ∙ ap (map (code_key s z)) cut-shown in
         let c : n ≡ length (zone_keys s r z) = cut-count ∙ sym (length-keys s r k.shape z) in
-        let d : drop n b' ≡ drop n b = rw (wrote-over w k.room, cut-count) (drop-over (cut s r) b) in
-        record { written = ap₂ ◌++◌ m (d ∙ ap (λ (i : ℕ). drop i b) c); count = c; within = omega (arith, cut-count, k.room) }
+        let d : drop n b' ≡ drop n b = rw (wrote-over w cut_fits, cut-count) (drop-over (cut s r) b) in
+        record { written = ap₂ ◌++◌ m (d ∙ ap (λ (i : ℕ). drop i b) c); count = c; within = omega (arith, cut-count, cut_fits) }
 
 -- the keys merged from there
 module _ {s : Shape} {r : Rect} {z u : ℕ} {starts entries : List ℕ} (k : AddRoom s r z u starts entries) {starts' : List ℕ} {n : ℕ} (w : Keyed s r z starts starts' n) where

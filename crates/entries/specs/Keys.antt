@@ -35,6 +35,13 @@ pub record KeyRoom (s : Shape) (r : Rect) (z : ℕ) (b : List ℕ) : Type 0 wher
   pub shape : Allowed s
   pub rect : Fits s r
   pub zone : z < most_zones
+  pub room : squares s ≤ length b
+
+-- the same of a buffer that has just room for the keys
+pub record KeySpace (s : Shape) (r : Rect) (z : ℕ) (b : List ℕ) : Type 0 where
+  pub shape : Allowed s
+  pub rect : Fits s r
+  pub zone : z < most_zones
   pub room : length (cut s r) ≤ length b
 
 pub record Keyed (s : Shape) (r : Rect) (z : ℕ) (b b' : List ℕ) (n : ℕ) : Type 0 where

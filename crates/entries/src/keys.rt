@@ -1,6 +1,6 @@
 // A zone's keys: made of the squares of its cut, and put into the entries.
 ghost use Rattle.std.specs.Prelude.{◌≡◌, ℕ, ◌<◌, map, length, slice_index};
-ghost use Rattle.entries.specs.Keys.{code_key, Coded, KeyRoom, Keyed, AddRoom, KeysAdded};
+ghost use Rattle.entries.specs.Keys.{code_key, Coded, KeyRoom, KeySpace, Keyed, AddRoom, KeysAdded};
 
 use crate::merge::merge_keys;
 use cuts::cut_levels;
@@ -29,14 +29,22 @@ pub fn key_codes(s: Shape, z: u32, codes: &mut [u32])
     }
 }
 
-// Writes the keys of zone z with rectangle r to the front of a buffer. Answers how many they are.
-pub fn write_keys(s: Shape, r: Rect, z: u32, keys: &mut [u32]) -> usize
-    requires { KeyRoom s r z keys.old }
+// Writes the keys of zone z with rectangle r to the front of a buffer that has room for them. Answers how many they are.
+pub fn write_keys_into(s: Shape, r: Rect, z: u32, keys: &mut [u32]) -> usize
+    requires { KeySpace s r z keys.old }
     ensures { Keyed s r z keys.old keys.new result }
 {
     let n = cut_levels(s, r, keys);
     key_codes(s, z, &mut keys[..n]);
     n
+}
+
+// The same in a buffer that has room for a town's squares.
+pub fn write_keys(s: Shape, r: Rect, z: u32, keys: &mut [u32]) -> usize
+    requires { KeyRoom s r z keys.old }
+    ensures { Keyed s r z keys.old keys.new result }
+{
+    write_keys_into(s, r, z, keys)
 }
 
 // Adds the keys of zone z with rectangle r to the first u entries, and moves the starts.

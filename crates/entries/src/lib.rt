@@ -10,5 +10,5 @@ mod drop; // drop.rt: a zone's keys taken out
 pub use drop::drop_keys;
 pub use entries::FREE;
 pub use gaps::{find_key, move_down};
-pub use keys::{add_keys, key_codes, write_keys};
+pub use keys::{add_keys, key_codes, write_keys, write_keys_into};
 pub use merge::{limit_of, move_up};

@@ -6,7 +6,7 @@ use Rattle.squares.specs.declared.shape.Rect.{Rect}
 use Rattle.squares.specs.Bounds.{Allowed, Fits}
 use Rattle.squares.specs.Squares.{squares_on}
 use Rattle.cuts.specs.Cut.{in_cut, cut}
-use Rattle.entries.specs.Keys.{zone_keys, KeyRoom}
+use Rattle.entries.specs.Keys.{zone_keys, KeySpace}
 
 -- r is the larger of a and b
 pub record Larger (a b r : ℕ) : Type 0 where
@@ -33,7 +33,7 @@ pub record Sieved (s : Shape) (r : Rect) (codes codes' : List ℕ) (n : ℕ) : T
 
 -- what writing keys of r that r' has not asks, and what it leaves: behind the keys of r nothing changes
 pub record ApartRoom (s : Shape) (r r' : Rect) (z : ℕ) (b : List ℕ) : Type 0 where
-  pub room : KeyRoom s r z b
+  pub room : KeySpace s r z b
   pub other : Fits s r'
 
 pub record WroteApart (s : Shape) (r r' : Rect) (z : ℕ) (b b' : List ℕ) (n : ℕ) : Type 0 where

@@ -5,7 +5,7 @@ ghost use Rattle.rides.specs.Changes.{ChangeRoom, Changed};
 use crate::apart::write_apart;
 use crate::part::part_keys;
 use cuts::cut_count;
-use entries::write_keys;
+use entries::write_keys_into;
 use squares::{Rect, Shape};
 
 // Where they stand: so many that are dropped at the front, and so many that are taken up from a place on, all among the first n.
@@ -54,8 +54,8 @@ pub fn find_changes(s: Shape, old: Rect, new: Rect, z: u32, starts: &mut [u32]) 
     if starts.len() < n + m {
         return tight_changes(s, old, new, z, starts);
     }
-    write_keys(s, old, z, starts);
-    write_keys(s, new, z, &mut starts[n..]);
+    write_keys_into(s, old, z, starts);
+    write_keys_into(s, new, z, &mut starts[n..]);
     let p = part_keys(starts, n, m);
     Changes {
         gone: p.gone,

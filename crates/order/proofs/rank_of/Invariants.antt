@@ -1,3 +1,4 @@
+-- `rank_of`: what its loop keeps, and the number that falls with each turn.
 use Prim.Native.Nat.{◌+◌, ◌-◌, ◌≤◌}
 use mathlib.Core.Path.{◌≡◌}
 use lib.ListN.{length, drop}

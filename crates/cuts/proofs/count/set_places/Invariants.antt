@@ -1,3 +1,4 @@
+-- `set_places`: what its loop keeps, and the number that falls with each turn.
 use Prim.Native.Nat.{suc, ◌-◌}
 use Rattle.cuts.specs.CountLaws.{CountTurn}
 use Rattle.cuts.proofs.count.set_places.Given as goal

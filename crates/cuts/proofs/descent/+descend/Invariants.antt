@@ -1,3 +1,4 @@
+-- `descend`: what its loop keeps, and the number that falls with each turn.
 use Rattle.std.proofs.Common.{◌-◌}
 use Rattle.cuts.specs.StepLaws.{ChildTurn}
 use Rattle.cuts.proofs.descent.+descend.Given as goal

@@ -1,3 +1,4 @@
+-- `cut_row`: what its loop keeps, and the number that falls with each turn.
 use Prim.Native.Nat.{◌-◌}
 use Rattle.cuts.specs.LoopLaws.{RowTurn}
 use Rattle.cuts.proofs.descent.cut_row.Given as goal

@@ -1,3 +1,4 @@
+-- `cut_rows`: what its loop keeps, and the number that falls with each turn.
 use Prim.Native.Nat.{◌-◌}
 use Rattle.cuts.specs.LoopLaws.{RowsTurn}
 use Rattle.cuts.proofs.descent.cut_rows.Given as goal

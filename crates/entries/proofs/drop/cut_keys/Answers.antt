@@ -2,13 +2,12 @@
 use Rattle.std.proofs.Common.{arith}
 use Rattle.order.specs.BufferLaws.{count-front}
 use Rattle.entries.specs.FrontLaws.{front-few}
-use Rattle.entries.specs.KeyLaws.{cut-few}
 use Rattle.entries.specs.ListedLaws.{cut-drops}
 use Rattle.entries.proofs.drop.cut_keys.Goals as goal
 
 pub write_keys-n-requires : goal.write_keys-n-requires
 write_keys-n-requires c = let p = c.requires in
-    record { shape = p.room.shape; rect = p.rect; zone = p.room.zone; room = omega (arith, cut-few _ c.args.r p.room.shape, p.room.places) }
+    record { shape = p.room.shape; rect = p.rect; zone = p.room.zone; room = omega (arith, p.room.places) }
 
 pub slice_bounds-set_starts-end-2 : goal.slice_bounds-set_starts-end-2
 slice_bounds-set_starts-end-2 c = count-front _ _ (omega (arith, c.write_keys-n.ensures.within, c.write_keys-n.auto.keys, c.lower_starts.ensures.long))

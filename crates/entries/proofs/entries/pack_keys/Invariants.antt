@@ -1,3 +1,4 @@
+-- `pack_keys`: what its loop keeps, and the number that falls with each turn.
 use Rattle.std.proofs.Common.{◌-◌, length}
 use Rattle.entries.specs.DropLaws.{Dropping}
 use Rattle.entries.proofs.entries.pack_keys.Given as goal

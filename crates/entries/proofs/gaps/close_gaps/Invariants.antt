@@ -1,3 +1,4 @@
+-- `close_gaps`: what its loop keeps, and the number that falls with each turn.
 use Rattle.std.proofs.Common.{◌-◌}
 use Rattle.entries.specs.GapLaws.{Closing}
 use Rattle.entries.proofs.gaps.close_gaps.Given as goal

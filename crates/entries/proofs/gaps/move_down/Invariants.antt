@@ -1,3 +1,4 @@
+-- `move_down`: what its loop keeps, and the number that falls with each turn.
 use Rattle.std.proofs.Common.{◌-◌}
 use Rattle.entries.specs.GapLaws.{Sliding}
 use Rattle.entries.proofs.gaps.move_down.Given as goal

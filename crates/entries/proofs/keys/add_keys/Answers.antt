@@ -2,12 +2,12 @@
 use Rattle.std.proofs.Common.{arith}
 use Rattle.order.specs.BufferLaws.{count-front}
 use Rattle.entries.specs.FrontLaws.{front-few}
-use Rattle.entries.specs.KeyLaws.{cut-few, merge-room, keys-added}
+use Rattle.entries.specs.KeyLaws.{merge-room, keys-added}
 use Rattle.entries.proofs.keys.add_keys.Goals as goal
 
 pub write_keys-n-requires : goal.write_keys-n-requires
 write_keys-n-requires c = let p = c.requires in
-    record { shape = p.shape; rect = p.rect; zone = p.zone; room = omega (arith, cut-few _ c.args.r p.shape, p.places) }
+    record { shape = p.shape; rect = p.rect; zone = p.zone; room = omega (arith, p.places) }
 
 pub merge_keys-requires : goal.merge_keys-requires
 merge_keys-requires c = record { n_in_bounds = omega (arith, c.write_keys-n.ensures.within, c.write_keys-n.auto.keys); n_in_bounds_2 = merge-room c.requires c.write_keys-n.ensures }

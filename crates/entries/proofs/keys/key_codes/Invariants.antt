@@ -1,3 +1,4 @@
+-- `key_codes`: what its loop keeps, and the number that falls with each turn.
 use Rattle.std.proofs.Common.{◌-◌, length}
 use Rattle.order.specs.SetLaws.{Setting}
 use Rattle.entries.specs.KeyLaws.{key_at}

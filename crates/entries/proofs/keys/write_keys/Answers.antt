@@ -1,16 +1,6 @@
--- `write_keys` writes the cut to the front of a buffer, and turns its squares into keys there.
-use Rattle.order.specs.BufferLaws.{count-front}
-use Rattle.entries.specs.KeyLaws.{keys-fit, codes-there, keys-written}
+-- `write_keys` has more room than the keys take.
+use Rattle.entries.specs.KeyLaws.{key-space}
 use Rattle.entries.proofs.keys.write_keys.Goals as goal
 
-pub slice_bounds-key_codes-end : goal.slice_bounds-key_codes-end
-slice_bounds-key_codes-end c = keys-fit c.requires c.cut_levels-n.ensures.wrote
-
-pub slice_bounds-key_codes-end-2 : goal.slice_bounds-key_codes-end-2
-slice_bounds-key_codes-end-2 c = count-front _ _ (keys-fit c.requires c.cut_levels-n.ensures.wrote)
-
-pub key_codes-requires : goal.key_codes-requires
-key_codes-requires c = codes-there c.requires c.cut_levels-n.ensures.wrote
-
-pub returns : goal.returns
-returns c = keys-written c.requires c.cut_levels-n.ensures.wrote _ c.key_codes.ensures
+pub write_keys_into-requires : goal.write_keys_into-requires
+write_keys_into-requires c = key-space c.requires

@@ -1,3 +1,4 @@
+-- `merge_keys`: what its loop keeps, and the number that falls with each turn.
 use Rattle.std.proofs.Common.{◌≤◌, take}
 use Rattle.entries.specs.MergeLaws.{Merging}
 use Rattle.entries.proofs.merge.merge_keys.Given as goal

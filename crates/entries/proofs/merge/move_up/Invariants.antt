@@ -1,3 +1,4 @@
+-- `move_up`: what its loop keeps, and the number that falls with each turn.
 use Rattle.std.proofs.Common.{◌≡◌, ◌-◌, ◌≤◌, length}
 use Rattle.entries.specs.Merge.{moved_up}
 use Rattle.entries.proofs.merge.move_up.Given as goal

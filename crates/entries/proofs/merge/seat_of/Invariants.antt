@@ -1,3 +1,4 @@
+-- `seat_of`: what its loop keeps, and the number that falls with each turn.
 use Rattle.entries.specs.Merge.{Limit}
 use Rattle.entries.proofs.merge.seat_of.Given as goal
 

@@ -1,3 +1,4 @@
+-- `read_digits`: what its loop keeps, and the number that falls with each turn.
 use Prim.Native.Nat.{◌-◌}
 use lib.ListN.{length}
 use Rattle.line.specs.NumberLaws.{Reads}

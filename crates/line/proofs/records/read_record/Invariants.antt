@@ -1,3 +1,4 @@
+-- `read_record`: what its loop keeps, and the number that falls with each turn.
 use Prim.Native.Nat.{◌-◌}
 use Rattle.line.specs.RecordLaws.{Gets}
 use Rattle.line.proofs.records.read_record.Given as goal

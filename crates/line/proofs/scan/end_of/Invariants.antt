@@ -1,3 +1,4 @@
+-- `end_of`: what its loop keeps, and the number that falls with each turn.
 use Prim.Native.Nat.{◌-◌}
 use lib.ListN.{length}
 use Rattle.line.specs.SplitLaws.{Scans}

@@ -1,3 +1,4 @@
+-- `climb_to_zone`: what its loop keeps, and the number that falls with each turn.
 use Prim.Native.Nat.{suc, ◌-◌}
 use Rattle.lookup.specs.ClimbLaws.{Climbing}
 use Rattle.lookup.proofs.climb.climb_to_zone.Given as goal

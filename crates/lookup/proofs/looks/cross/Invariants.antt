@@ -1,3 +1,4 @@
+-- `cross`: what its loop keeps, and the number that falls with each turn.
 use Prim.Native.Nat.{◌-◌}
 use Rattle.lookup.specs.LookLaws.{Crossing}
 use Rattle.lookup.proofs.looks.cross.Given as goal

@@ -1,3 +1,4 @@
+-- `look_up`: what its loop keeps, and the number that falls with each turn.
 use Prim.Native.Nat.{suc, ◌-◌}
 use Rattle.lookup.specs.LookLaws.{Looking}
 use Rattle.lookup.proofs.looks.look_up.Given as goal

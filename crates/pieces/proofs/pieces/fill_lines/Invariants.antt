@@ -1,3 +1,4 @@
+-- `fill_lines`: what its loop keeps, and the number that falls with each turn.
 use Prim.Native.Nat.{◌-◌}
 use lib.ListN.{length}
 use Rattle.tables.specs.Tables.{tables}

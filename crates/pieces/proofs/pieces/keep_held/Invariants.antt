@@ -1,3 +1,4 @@
+-- `keep_held`: what its loop keeps, and the number that falls with each turn.
 use Prim.Native.Nat.{◌-◌}
 use Rattle.pieces.specs.PieceLaws.{Zeroed}
 use Rattle.pieces.proofs.pieces.keep_held.Given as goal

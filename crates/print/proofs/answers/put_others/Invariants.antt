@@ -1,3 +1,4 @@
+-- `put_others`: what its loop keeps, and the number that falls with each turn.
 use Prim.Native.Nat.{◌-◌}
 use lib.ListN.{length}
 use Rattle.print.specs.TextLaws.{Follows}

@@ -1,3 +1,4 @@
+-- `sieve_codes`: what its loop keeps, and the number that falls with each turn.
 use Prim.Native.Nat.{◌-◌}
 use lib.ListN.{length}
 use Rattle.rides.specs.Apart.{code_out}

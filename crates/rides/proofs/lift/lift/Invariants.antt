@@ -1,3 +1,4 @@
+-- `lift`: what its loop keeps, and the number that falls with each turn.
 use Prim.Native.Nat.{◌+◌}
 use Rattle.rides.specs.LiftLaws.{Lifting}
 use Rattle.rides.proofs.lift.lift.Given as goal

@@ -1,3 +1,4 @@
+-- `seat_in`: what its loop keeps, and the number that falls with each turn.
 use Rattle.rides.specs.LiftLaws.{Most}
 use Rattle.rides.proofs.lift.seat_in.Given as goal
 

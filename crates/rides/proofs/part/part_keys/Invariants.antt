@@ -1,3 +1,4 @@
+-- `part_keys`: what its loop keeps, and the number that falls with each turn.
 use Prim.Native.Nat.{◌+◌, ◌-◌}
 use Rattle.rides.specs.PartLaws.{Parting}
 use Rattle.rides.proofs.part.part_keys.Given as goal

@@ -1,3 +1,4 @@
+-- `run_end`: what its loop keeps, and the number that falls with each turn.
 use Prim.Native.Nat.{◌-◌}
 use Rattle.rides.specs.PassLaws.{Running}
 use Rattle.rides.proofs.pass.run_end.Given as goal

@@ -1,3 +1,4 @@
+-- `swap_keys`: what its loop keeps, and the number that falls with each turn.
 use Prim.Native.Nat.{◌-◌}
 use Rattle.rides.specs.PassLaws.{Passing}
 use Rattle.rides.proofs.pass.swap_keys.Given as goal

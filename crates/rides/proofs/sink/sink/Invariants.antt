@@ -1,3 +1,4 @@
+-- `sink`: what its loop keeps, and the number that falls with each turn.
 use Prim.Native.Nat.{◌+◌, ◌-◌}
 use Rattle.rides.specs.SinkLaws.{Sinking}
 use Rattle.rides.proofs.sink.sink.Given as goal

@@ -1,3 +1,4 @@
+-- `mark_cars`: what its loop keeps, and the number that falls with each turn.
 use Prim.Native.Nat.{◌-◌}
 use Rattle.tables.specs.Slots.{car_between}
 use Rattle.rosters.specs.InsideLaws.{Marking}

@@ -1,3 +1,4 @@
+-- `stamp_rows`: what its loop keeps, and the number that falls with each turn.
 use Prim.Native.Nat.{◌-◌}
 use lib.ListN.{length}
 use Rattle.rosters.specs.RosterLaws.{Stamping}

@@ -1,3 +1,4 @@
+-- `square_at`: what its loop keeps, and the number that falls with each turn.
 use Prim.Native.Nat.{◌-◌}
 use Rattle.soundness.specs.EntryLaws.{Walked}
 use Rattle.soundness.proofs.entry.square_at.Given as goal

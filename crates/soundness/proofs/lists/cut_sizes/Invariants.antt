@@ -1,3 +1,4 @@
+-- `cut_sizes`: what its loop keeps, and the number that falls with each turn.
 use Prim.Native.Nat.{◌-◌}
 use Rattle.soundness.specs.ZoneLaws.{Summed}
 use Rattle.soundness.proofs.lists.cut_sizes.Given as goal

@@ -1,3 +1,4 @@
+-- `rights`: what its loop keeps, and the number that falls with each turn.
 use Prim.Native.Nat.{◌-◌}
 use Rattle.soundness.specs.Tests.{right_at}
 use Rattle.soundness.specs.EveryLaws.{Passed}

@@ -1,3 +1,4 @@
+-- `rises`: what its loop keeps, and the number that falls with each turn.
 use Prim.Native.Nat.{◌-◌}
 use Rattle.soundness.specs.Tests.{rises_at}
 use Rattle.soundness.specs.EveryLaws.{Passed}

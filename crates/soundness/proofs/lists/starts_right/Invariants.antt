@@ -1,3 +1,4 @@
+-- `starts_right`: what its loop keeps, and the number that falls with each turn.
 use Prim.Native.Nat.{◌-◌}
 use lib.ListN.{length}
 use Rattle.soundness.specs.Tests.{start_right}

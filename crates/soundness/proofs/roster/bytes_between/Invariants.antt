@@ -1,3 +1,4 @@
+-- `bytes_between`: what its loop keeps, and the number that falls with each turn.
 use Prim.Native.Nat.{◌-◌}
 use lib.ListN.{length}
 use Rattle.tables.specs.Slots.{car_between}

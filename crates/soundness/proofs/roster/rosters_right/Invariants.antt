@@ -1,3 +1,4 @@
+-- `rosters_right`: what its loop keeps, and the number that falls with each turn.
 use Prim.Native.Nat.{◌-◌}
 use Rattle.soundness.specs.EveryLaws.{Passed}
 use Rattle.soundness.specs.RosterLaws.{row_right}

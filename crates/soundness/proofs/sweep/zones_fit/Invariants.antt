@@ -1,3 +1,4 @@
+-- `zones_fit`: what its loop keeps, and the number that falls with each turn.
 use Prim.Native.Nat.{◌-◌}
 use Rattle.soundness.specs.Tests.{zone_fits}
 use Rattle.soundness.specs.EveryLaws.{Passed}

@@ -1,3 +1,4 @@
+-- `row_right`: what its loop keeps, and the number that falls with each turn.
 use Prim.Native.Nat.{◌-◌}
 use Rattle.tables.specs.Tables.{tally}
 use Rattle.soundness.specs.Tests.{number_right}

@@ -1,3 +1,4 @@
+-- `tallies_right`: what its loop keeps, and the number that falls with each turn.
 use Prim.Native.Nat.{◌-◌}
 use lib.ListN.{length}
 use Rattle.soundness.specs.Tests.{tally_right}

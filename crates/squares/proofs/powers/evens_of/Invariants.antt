@@ -1,3 +1,4 @@
+-- `evens_of`: what its loop keeps, and the number that falls with each turn.
 use Rattle.std.proofs.Common.{◌-◌}
 use Rattle.squares.specs.Squares.{evens}
 use Rattle.squares.specs.PowerLaws.{Digits}

@@ -1,3 +1,4 @@
+-- `slide`: the goals that the check does not find by itself.
 use Rattle.std.proofs.Common.{rules}
 use Rattle.squares.specs.RideLaws.{slide-below, slide-past, slide-casts, slide-is}
 use Rattle.squares.proofs.ride.slide.Goals as goal

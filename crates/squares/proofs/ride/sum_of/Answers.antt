@@ -1,3 +1,4 @@
+-- `sum_of`: the goals that the check does not find by itself.
 use Rattle.squares.specs.RideLaws.{wide_fits, sum_fits, sum_is}
 use Rattle.squares.proofs.ride.sum_of.Goals as goal
 

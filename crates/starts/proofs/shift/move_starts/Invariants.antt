@@ -1,3 +1,4 @@
+-- `move_starts`: what its loop keeps, and the number that falls with each turn.
 use Rattle.std.proofs.Common.{◌≡◌, ◌-◌, take}
 use Rattle.starts.specs.Shift.{steps}
 use Rattle.starts.specs.ShiftLaws.{Moving}

@@ -1,3 +1,4 @@
+-- `shift_to`: what its loop keeps, and the number that falls with each turn.
 use Rattle.std.proofs.Common.{◌-◌}
 use Rattle.starts.specs.Shift.{Shifting}
 use Rattle.starts.proofs.shift.shift_to.Given as goal

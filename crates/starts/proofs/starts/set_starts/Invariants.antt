@@ -1,3 +1,4 @@
+-- `set_starts`: what its loop keeps, and the number that falls with each turn.
 use Rattle.std.proofs.Common.{◌-◌, length}
 use Rattle.starts.specs.RankLaws.{Ranking}
 use Rattle.starts.proofs.starts.set_starts.Given as goal

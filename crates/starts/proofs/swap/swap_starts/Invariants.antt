@@ -1,3 +1,4 @@
+-- `swap_starts`: what its loop keeps, and the number that falls with each turn.
 use Rattle.std.proofs.Common.{◌+◌, ◌-◌}
 use Rattle.starts.specs.SwapStartLaws.{Passing}
 use Rattle.starts.proofs.swap.swap_starts.Given as goal

@@ -1,3 +1,4 @@
+-- `fill_words`: what its loop keeps, and the number that falls with each turn.
 use Rattle.std.proofs.Common.{◌≡◌, ◌-◌, ◌≤◌, ◌++◌, length, drop, replicate}
 use Rattle.tables.proofs.fill.fill_words.Given as goal
 

@@ -1,3 +1,4 @@
+-- `list_cars`: what its loop keeps, and the number that falls with each turn.
 use Rattle.std.proofs.Common.{◌-◌, ◌≤◌}
 use Rattle.order.specs.Order.{Wrote}
 use Rattle.tables.specs.Rows.{row}

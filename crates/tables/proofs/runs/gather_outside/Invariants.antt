@@ -1,3 +1,4 @@
+-- `gather_outside`: what its loop keeps, and the number that falls with each turn.
 use Rattle.std.proofs.Common.{◌-◌}
 use Rattle.tables.specs.Runs.{outside}
 use Rattle.tables.specs.GatherLaws.{Gathering}

@@ -1,3 +1,4 @@
+-- `count_cars`: what its loop keeps, and the number that falls with each turn.
 use Rattle.std.proofs.Common.{◌-◌}
 use Rattle.tallies.specs.CountLaws.{Totals}
 use Rattle.tallies.proofs.counts.count_cars.Given as goal

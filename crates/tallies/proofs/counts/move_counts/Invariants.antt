@@ -1,3 +1,4 @@
+-- `move_counts`: what its loop keeps, and the number that falls with each turn.
 use Rattle.std.proofs.Common.{◌-◌, length}
 use Rattle.tallies.specs.CountLaws.{Moving}
 use Rattle.tallies.proofs.counts.move_counts.Given as goal

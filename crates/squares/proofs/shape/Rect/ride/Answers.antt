@@ -1,3 +1,4 @@
+-- `ride`: the goals that the check does not find by itself.
 use Rattle.squares.specs.RideLaws.{slid-plain, rect-rides}
 use Rattle.squares.proofs.shape.Rect.ride.Goals as goal
 
