@@ -41,6 +41,7 @@ pub fn position_of(x: u32, y: u32) -> Position
 }
 
 // The room for an M: 1 refuses a shape beyond the bounds, 3 a town of more than 64 by 64.
+#[tactic(auto, using(crate::proofs::Widths::wide_refused))]
 pub fn open_room(k: u32, P: u32, Q: u32) -> RoomFor
     ensures { OpenRoom k P Q result }
 {

@@ -39,6 +39,7 @@ fn settle(row: &mut [u32])
 }
 
 // Both: the counts, and then the holder, which a spectator does not change.
+#[tactic(auto, unfolding(crate::specs::Counts::swung))]
 fn turn(row: &mut [u32], g: usize, v: u32)
     requires row_len { length row.old ≡ tally }
     requires g_le_last_team { g ≤ last_team }

@@ -87,4 +87,4 @@ returns c =
     let near : ltb c.args.car (car_room (tables c.args.head.now c.args.zones.now c.args.cars.now c.args.spots.now c.args.starts.now c.args.entries.now c.args.rosters.now c.args.tallies.now)) ≡ true = below c.car_room.ensures c.if-car_room-car.false in
     let first = own in
     let spot = spot_on_lem _ _ (sized→ _ first) c.shape_in.ensures c.locate.ensures _ _ c.in-Cell.is in
-    ap₂ Admitted.At (sym spot.1) (sym spot.2) ∙ admits _ _ _ _ _ _ 6 (first, (near, (team, (spot.0, (enough c.zone_room-many.ensures c.if-entered-many.false, (enough c.zone_room-many.ensures c.if-left-many.false, tt))))))
+    ap₂ Admitted.At (sym spot.1) (sym spot.2) ∙ admits _ _ _ _ _ _ 6 (first, (near, (team, (spot.0, (enough c.zone_room-many.ensures c.if-entered-many.false, (enough c.zone_room-many.ensures (omega arith), tt))))))

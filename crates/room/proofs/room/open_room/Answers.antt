@@ -5,7 +5,7 @@ use mathlib.Core.Bool.{true}
 use native.Mathlib.Omega.{arith}
 use Rattle.squares.specs.Shape.{shape, allowed, width, height}
 use Rattle.squares.specs.ShapeLaws.{allowed→, shaped→, not-shaped}
-use Rattle.room.specs.OpenLaws.{beyond-1, too_wide, too-high, let-in}
+use Rattle.room.specs.OpenLaws.{beyond-1, too-high, let-in}
 use Rattle.room.proofs.room.open_room.Goals as goal
 
 pub returns-in_default : goal.returns-in_default
@@ -16,12 +16,6 @@ width-requires c =
     let made : let a = c.args in (shape a.k a.P a.Q ≡ (c.in-Allowed.s)) × (allowed (c.in-Allowed.s) ≡ true) = let a = c.args in shaped→ a.k a.P a.Q c.new.ensures c.in-Allowed.is in
     allowed→ _ made.1
 
-pub returns-then-width-gt64 : goal.returns-then-width-gt64
-returns-then-width-gt64 c =
-    let made : let a = c.args in (shape a.k a.P a.Q ≡ (c.in-Allowed.s)) × (allowed (c.in-Allowed.s) ≡ true) = let a = c.args in shaped→ a.k a.P a.Q c.new.ensures c.in-Allowed.is in
-    let a = c.args in
-    too_wide a.k a.P a.Q made (omega (arith, c.width.ensures.is, c.if-width-gt64.true))
-
 pub height-requires : goal.height-requires
 height-requires c =
     let made : let a = c.args in (shape a.k a.P a.Q ≡ (c.in-Allowed.s)) × (allowed (c.in-Allowed.s) ≡ true) = let a = c.args in shaped→ a.k a.P a.Q c.new.ensures c.in-Allowed.is in
@@ -29,7 +23,7 @@ height-requires c =
 
 pub returns-then-height-gt64 : goal.returns-then-height-gt64
 returns-then-height-gt64 c =
-    let few-columns : width (c.in-Allowed.s) ≤ 64 = omega (arith, c.width.ensures.is, c.if-width-gt64.false) in
+    let few-columns : width (c.in-Allowed.s) ≤ 64 = omega arith in
     let made : let a = c.args in (shape a.k a.P a.Q ≡ (c.in-Allowed.s)) × (allowed (c.in-Allowed.s) ≡ true) = let a = c.args in shaped→ a.k a.P a.Q c.new.ensures c.in-Allowed.is in
     let a = c.args in
     too-high a.k a.P a.Q made few-columns (omega (arith, c.height.ensures.is, c.if-height-gt64.true))
@@ -41,8 +35,8 @@ squares-requires c =
 
 pub returns : goal.returns
 returns c =
-    let few-rows : height (c.in-Allowed.s) ≤ 64 = omega (arith, c.height.ensures.is, c.if-height-gt64.false) in
-    let few-columns : width (c.in-Allowed.s) ≤ 64 = omega (arith, c.width.ensures.is, c.if-width-gt64.false) in
+    let few-rows : height (c.in-Allowed.s) ≤ 64 = omega arith in
+    let few-columns : width (c.in-Allowed.s) ≤ 64 = omega arith in
     let made : let a = c.args in (shape a.k a.P a.Q ≡ (c.in-Allowed.s)) × (allowed (c.in-Allowed.s) ≡ true) = let a = c.args in shaped→ a.k a.P a.Q c.new.ensures c.in-Allowed.is in
     let a = c.args in
     let-in a.k a.P a.Q made few-columns few-rows c.squares.ensures.is
