@@ -2,7 +2,7 @@
 use Rattle.std.specs.Prelude.{ℕ, ◌≡◌, ◌<◌}
 use Rattle.squares.specs.declared.shape.Shape.{Shape}
 use Rattle.squares.specs.declared.shape.Shaped.{Shaped}
-use Rattle.squares.specs.Shape.{shape, allowed, width}
+use Rattle.squares.specs.Shape.{width}
 use Rattle.squares.specs.Made.{shaped}
 use Rattle.squares.specs.ShapeLaws.{shaped→}
 use Rattle.room.specs.declared.room.RoomFor.TheVariants.{Refused}

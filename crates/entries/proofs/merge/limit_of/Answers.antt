@@ -1,5 +1,5 @@
 -- `limit_of` answers the start of a later place, or the end where that comes first.
-use Rattle.std.proofs.Common.{◌≤◌, arith}
+use Rattle.std.proofs.Common.{arith}
 use Rattle.entries.specs.MergeLaws.{limit-start}
 use Rattle.entries.proofs.merge.limit_of.Goals as goal
 
