@@ -14,6 +14,7 @@ pub enum CutOf {
 
 // Writes the squares of the cut to the front of `out` and answers how many they are.
 // They are counted first, so that a refusal leaves the buffer as it was.
+#[tactic(auto, using(crate::proofs::Rooms::no_room, crate::proofs::Rooms::made, crate::proofs::Rooms::is_allowed))]
 pub fn cut_of_rectangle(k: u32, P: u32, Q: u32, r: Rect, out: &mut [u32]) -> CutOf
     ensures { makes (out.new ∷ []) (cut_is result) ≡ cut_gives (shape k P Q) r out.old }
 {

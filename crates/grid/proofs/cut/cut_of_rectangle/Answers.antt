@@ -6,7 +6,7 @@ use Rattle.squares.specs.Shape.{shape, allowed, fits}
 use Rattle.squares.specs.ShapeLaws.{allowed→, fits→, shaped→, not-shaped}
 use Rattle.cuts.specs.Leaves.{AllRoom}
 use Rattle.squares.specs.RefusalLaws.{holds, fails}
-use Rattle.grid.specs.PromiseLaws.{cut-stops, cut_short, cut-listed}
+use Rattle.grid.specs.PromiseLaws.{cut-stops, cut-listed}
 use Rattle.grid.proofs.cut.cut_of_rectangle.Goals as goal
 
 pub returns-in_default : goal.returns-in_default
@@ -28,13 +28,6 @@ cut_count-count-requires c =
     let fitting : fits (c.in-Allowed.s) c.args.r ≡ true = holds c.fits.ensures c.if-not-fits.false-raw in
     let room : AllRoom (c.in-Allowed.s) c.args.r = record { shape = allowed→ _ made.1; rect = fits→ _ _ fitting } in
     room
-
-pub returns-then-out-count : goal.returns-then-out-count
-returns-then-out-count c =
-    let fitting : fits (c.in-Allowed.s) c.args.r ≡ true = holds c.fits.ensures c.if-not-fits.false-raw in
-    let made : (shape c.args.k c.args.P c.args.Q ≡ (c.in-Allowed.s)) × (allowed (c.in-Allowed.s) ≡ true) = shaped→ c.args.k c.args.P c.args.Q c.new.ensures c.in-Allowed.is in
-    let m = made in
-    rw m.0 (cut_short _ _ _ _ m.1 fitting c.cut_count-count.ensures (omega arith))
 
 pub cut_levels-requires : goal.cut_levels-requires
 cut_levels-requires c =
