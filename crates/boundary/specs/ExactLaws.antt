@@ -8,10 +8,13 @@ use Rattle.std.proofs.Math.Nat.{mul-le-mul}
 use native.Mathlib.Omega.{arith}
 use Rattle.std.proofs.lemmas.List.Edits.{sets}
 use borrow.Author.Tests.{leb-true, ltb-true}
+use Rattle.std.specs.declared.result.Result.{Result as Told}
+use Rattle.std.specs.declared.result.Result.TheVariants.{Ok, Err}
 use Rattle.order.specs.Order.{upto, span, keep}
 use Rattle.order.specs.Sums.{bit}
 use Rattle.order.specs.KeepLaws.{length-keep, length-span}
 use Rattle.order.specs.TestLaws.{and→}
+use Rattle.squares.specs.declared.refusal.Refusal.{Refusal}
 use Rattle.squares.specs.declared.shape.Shape.{Shape}
 use Rattle.squares.specs.declared.shape.Rect.{Rect}
 use Rattle.squares.specs.Bounds.{Allowed}
@@ -25,7 +28,6 @@ use Rattle.squares.specs.RefusalLaws.{Clear, numbered, clear}
 use Rattle.grid.specs.Promises.{number_checks, number_gives, square_checks, square_gives, cut_checks, cut_gives}
 use Rattle.position.specs.declared.Position.{Position}
 use Rattle.position.specs.Answer.{column_of, row_of}
-use Rattle.model.specs.declared.answers.SoundnessOf.{SoundnessOf}
 use Rattle.model.specs.Answers.{Values, soundness_is}
 use Rattle.model.specs.TeamLaws.{lead-small}
 use Rattle.model.specs.ScoringLaws.{climb-few}
@@ -139,10 +141,9 @@ relays-exact sound {many = many} {t} {call = call} {v = v} {v'} {r} h trust =
     (subst (λ (e : Event). Tells (said many e.result.answer) v v' r) (keeps-told sound h.kept trust).0 h.tells)
 
 -- soundness, on any tables
-soundness-small : (a : SoundnessOf) → Small (drop 1 (said 1 (soundness_is a)))
-soundness-small (SoundnessOf.Refused n) = zeros-small 1
-soundness-small SoundnessOf.Sound = (omega arith, tt)
-soundness-small SoundnessOf.Unsound = (omega arith, tt)
+soundness-small : (a : Told Bool Refusal) → Small (drop 1 (said 1 (soundness_is a)))
+soundness-small (Err r) = zeros-small 1
+soundness-small (Ok sound) = (bit-few sound, tt)
 
 pub soundness-exact : {t t' : Tables} {v v' : List ℕ} {r : ℕ} (h : Relays 1 (both t t') soundness_told v v' r) → Exact (said 1 (soundness_is h.answer)) v v' r
 soundness-exact h = exact (soundness-small h.answer) h.tells

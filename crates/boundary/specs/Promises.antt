@@ -2,21 +2,22 @@
 use Rattle.std.specs.Prelude.{ℕ, ◌+◌, ◌*◌, ◌≡◌, List, [], ◌∷◌, Float, get_or, drop}
 use Rattle.std.proofs.lemmas.List.Edits.{sets}
 use denote.Triple.Both.{Both}
+use Rattle.std.specs.declared.result.Result.{Result as Told}
+use Rattle.std.specs.declared.result.Result.TheVariants.{Ok, Err}
+use Rattle.squares.specs.declared.refusal.Refusal.{Refusal}
 use Rattle.squares.specs.declared.shape.Shape.{Shape}
 use Rattle.squares.specs.declared.shape.Rect.{Rect}
 use Rattle.squares.specs.Shape.{allowed}
 use Rattle.squares.specs.Squares.{squares}
-use Rattle.squares.specs.Refusals.{Bar, first, fields, Result, result}
+use Rattle.squares.specs.Refusals.{Bar, first, number_of, fields, Result, result}
 use Rattle.position.specs.declared.Position.{Position}
-use Rattle.model.specs.declared.answers.WhereIs.{WhereIs}
 use Rattle.model.specs.Answers.{where_is}
 use Rattle.model.specs.Model.{Event, roomy}
 use Rattle.tables.specs.Tables.{Tables, tally}
 use Rattle.promises.specs.Promise.{Keeps}
 use Rattle.promises.specs.Events.{where_told}
 use Rattle.values.specs.Promises.{said, Tells, Points}
-use Rattle.pieces.specs.declared.pieces.Filling.{Filling}
-use Rattle.pieces.specs.declared.pieces.Filling.TheVariants.{Refused, Done}
+use Rattle.pieces.specs.declared.pieces.Filled.{Filled as Moved}
 use Rattle.pieces.specs.Pieces.{Filled, Fills}
 
 -- ---- arguments put together
@@ -38,7 +39,7 @@ pub record Relays {A : Type 0} (many : ℕ) (t : Both Tables Tables) (event : A 
 
 -- where a car is: the array is of floats
 pub record Pointed (t : Both Tables Tables) (car : ℕ) (v v' : List Float) (r : ℕ) : Type 0 where
-  pub answer : WhereIs
+  pub answer : Told Position Refusal
   pub kept : Keeps t (where_told car answer)
   pub tells : Points (where_is answer) v v' r
 
@@ -67,12 +68,12 @@ pub record Said (says v v' : List ℕ) (r : ℕ) : Type 0 where
   pub values : v' ≡ sets v 0 (drop 1 says)
 
 -- what is said of a call: the number of its refusal, or 0 and how much was read and written
-abbrev pub filling_says : Filling → List ℕ
-filling_says (Refused n) = n ∷ 0 ∷ 0 ∷ []
-filling_says (Done read wrote) = 0 ∷ read ∷ wrote ∷ []
+abbrev pub filling_says : Told Moved Refusal → List ℕ
+filling_says (Err r) = number_of r ∷ 0 ∷ 0 ∷ []
+filling_says (Ok moved) = 0 ∷ moved.read ∷ moved.wrote ∷ []
 
 -- the call beneath keeps its promise, and what it answers is told, no number cut
 pub record Logs (f : Filled) (t : Both Tables Tables) (piece b b' o o' v v' : List ℕ) (r : ℕ) : Type 0 where
-  pub answer : Filling
+  pub answer : Told Moved Refusal
   pub kept : Fills f t piece b b' o o' answer
   pub tells : Said (filling_says answer) v v' r

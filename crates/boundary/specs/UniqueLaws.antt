@@ -5,9 +5,11 @@ use Rattle.std.proofs.Common.{ap, sym, ◌∙◌}
 use Rattle.std.proofs.Math.Bool.{true, false}
 use native.Mathlib.Omega.{arith}
 use Rattle.std.proofs.lemmas.List.Edits.{sets}
-use Rattle.squares.specs.Refusals.{Answer, refuse, Result}
+use Rattle.std.specs.declared.result.Result.{Result as Told}
+use Rattle.std.specs.declared.result.Result.TheVariants.{Ok, Err}
+use Rattle.squares.specs.declared.refusal.Refusal.{Refusal}
+use Rattle.squares.specs.Refusals.{number_of, Answer, refuse, Result}
 use Rattle.squares.specs.RefusalLaws.{by-refusal}
-use Rattle.model.specs.declared.answers.SoundnessOf.{SoundnessOf}
 use Rattle.model.specs.Answers.{Values, soundness_is}
 use Rattle.model.specs.Model.{Call, ask_soundness, Event, verdict, meaning}
 use Rattle.tables.specs.Tables.{Tables}
@@ -53,7 +55,7 @@ pointed-unique h g =
 
 -- soundness, on any tables: they are not both sound and not
 module _ {t : Tables} where
-  yes-and-no : Keeps (both t t) (soundness_told SoundnessOf.Sound) → Keeps (both t t) (soundness_told SoundnessOf.Unsound) → ⊥
+  yes-and-no : Keeps (both t t) (soundness_told (Ok true)) → Keeps (both t t) (soundness_told (Ok false)) → ⊥
   unfolding meaning
   yes-and-no k l = never false (λ (s : Sound t). never true s)
     where
@@ -64,14 +66,13 @@ module _ {t : Tables} where
   unfolding meaning
   refused-same n k l = by-refusal (bars t ask_soundness) (λ z. absurd (k.passes z n refl).0) (λ f. (kept_same true k l (λ z. absurd (f z))).0)
 
-  verdict-same : (x y : SoundnessOf) → Keeps (both t t) (soundness_told x) → Keeps (both t t) (soundness_told y) → soundness_is x ≡ soundness_is y
-  verdict-same (SoundnessOf.Refused n) y k l = refused-same n k l
-  verdict-same SoundnessOf.Sound (SoundnessOf.Refused n) k l = sym (refused-same n l k)
-  verdict-same SoundnessOf.Sound SoundnessOf.Sound k l = refl
-  verdict-same SoundnessOf.Sound SoundnessOf.Unsound k l = absurd (yes-and-no k l)
-  verdict-same SoundnessOf.Unsound (SoundnessOf.Refused n) k l = sym (refused-same n l k)
-  verdict-same SoundnessOf.Unsound SoundnessOf.Sound k l = absurd (yes-and-no l k)
-  verdict-same SoundnessOf.Unsound SoundnessOf.Unsound k l = refl
+  verdict-same : (x y : Told Bool Refusal) → Keeps (both t t) (soundness_told x) → Keeps (both t t) (soundness_told y) → soundness_is x ≡ soundness_is y
+  verdict-same (Err r) y k l = refused-same (number_of r) k l
+  verdict-same (Ok a) (Err r) k l = sym (refused-same (number_of r) l k)
+  verdict-same (Ok true) (Ok true) k l = refl
+  verdict-same (Ok true) (Ok false) k l = absurd (yes-and-no k l)
+  verdict-same (Ok false) (Ok true) k l = absurd (yes-and-no l k)
+  verdict-same (Ok false) (Ok false) k l = refl
 
   pub soundness-unique : {v v' v'' : List ℕ} {r r' : ℕ} → Relays 1 (both t t) soundness_told v v' r → Relays 1 (both t t) soundness_told v v'' r' → (r ≡ r') × (v' ≡ v'')
   soundness-unique h g = tells-same (ap (said 1) (verdict-same h.answer g.answer h.kept g.kept)) h.tells g.tells

@@ -1,4 +1,5 @@
 // The calls for C and Rust. A call returns 0 or the number of a refusal; what it answers besides goes into `values`.
+// The parameters are flat, each table one of its own, since the C interface needs them so.
 #![tactic(auto)]
 
 mod shapes; // shapes.rt: the calls without tables

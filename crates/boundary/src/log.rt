@@ -1,36 +1,24 @@
 // The log: a piece of it, and its end.
-ghost use Rattle.std.specs.Prelude.{◌≡◌, [], ◌∷◌, length, set};
+ghost use Rattle.std.specs.Prelude.{[], length};
 ghost use Rattle.tables.specs.Lent.{lent, as_written};
 ghost use Rattle.pieces.specs.Pieces.{held_in, fill, finish};
 ghost use Rattle.boundary.specs.Promises.{filling_says, Said, Logs};
 
-use pieces::Filling;
+use pieces::Filled;
+use squares::Refusal;
+use tables::OpenTables;
 
-// A number is stored at a place where the array has it.
-fn store(values: &mut [usize], at: usize, n: usize)
-    ensures { values.new ≡ set values.old at n }
-{
-    if at < values.len() {
-        values[at] = n;
-    }
-}
-
-// A number is returned, two go into the array.
-fn say(number: u32, read: usize, wrote: usize, values: &mut [usize]) -> u32
-    ensures { Said (number ∷ read ∷ wrote ∷ []) values.old values.new result }
-{
-    store(values, 0, read);
-    store(values, 1, wrote);
-    number
-}
-
-fn say_filling(answer: Filling, values: &mut [usize]) -> u32
+// What a call on the log answers is told: 0 and two numbers, or the number of its refusal and 0 twice.
+fn tell_filled(answer: Result<Filled, Refusal>, values: &mut [usize]) -> u32
     ensures { Said (filling_says answer) values.old values.new result }
 {
-    match answer {
-        Filling::Refused(n) => say(n, 0, 0, values),
-        Filling::Done(read, wrote) => say(0, read, wrote, values),
-    }
+    let (number, read, wrote) = match answer {
+        Ok(filled) => (0, filled.read, filled.wrote),
+        Err(r) => (r.number(), 0, 0),
+    };
+    order::store(values, 0, read);
+    order::store(values, 1, wrote);
+    number
 }
 
 // Two values: how much of the piece was read, how much of the buffer was written.
@@ -51,10 +39,17 @@ pub extern "C" fn unwadegiro_log(
 ) -> u32
     ensures { Logs (fill (length out.old) (lent (as_written head) (as_written zones) (as_written cars) (as_written spots) (as_written starts) (as_written entries) (as_written rosters) (as_written tallies)).entry (held_in held.old) piece.now) (lent (as_written head) (as_written zones) (as_written cars) (as_written spots) (as_written starts) (as_written entries) (as_written rosters) (as_written tallies)) piece.now held.old held.new out.old out.new values.old values.new result }
 {
-    let filling = replay::answer_piece(
-        head, zones, cars, spots, starts, entries, rosters, tallies, piece, held, out,
-    );
-    say_filling(filling, values)
+    let town = OpenTables {
+        head,
+        zones,
+        cars,
+        spots,
+        starts,
+        entries,
+        rosters,
+        tallies,
+    };
+    tell_filled(replay::answer_piece(town, piece, held, out), values)
 }
 
 // Two values: 0, how much of the buffer was written.
@@ -74,8 +69,15 @@ pub extern "C" fn unwadegiro_log_end(
 ) -> u32
     ensures { Logs (finish (lent (as_written head) (as_written zones) (as_written cars) (as_written spots) (as_written starts) (as_written entries) (as_written rosters) (as_written tallies)).entry (held_in held.old)) (lent (as_written head) (as_written zones) (as_written cars) (as_written spots) (as_written starts) (as_written entries) (as_written rosters) (as_written tallies)) [] held.old held.new out.old out.new values.old values.new result }
 {
-    let filling = replay::answer_end(
-        head, zones, cars, spots, starts, entries, rosters, tallies, held, out,
-    );
-    say_filling(filling, values)
+    let town = OpenTables {
+        head,
+        zones,
+        cars,
+        spots,
+        starts,
+        entries,
+        rosters,
+        tallies,
+    };
+    tell_filled(replay::answer_end(town, held, out), values)
 }

@@ -4,8 +4,9 @@ ghost use Rattle.promises.specs.Events.{searched, scoring_told, roster_told, cou
 ghost use Rattle.boundary.specs.Promises.{point, Relays, Pointed};
 
 use position::Position;
+use tables::ReadTables;
 use values::{
-    tell_count, tell_holder, tell_roster, tell_scoring, tell_searched, tell_soundness, tell_where,
+    tell_holder, tell_looked, tell_number, tell_scoring, tell_soundness, tell_where, tell_written,
 };
 
 // Two values: the squares looked into, the zones found.
@@ -27,10 +28,18 @@ pub extern "C" fn unwadegiro_search(
     ensures { Relays 2 (lent (as_read head) (as_read zones) (as_read cars) (as_read spots) (as_read starts) (as_read entries) (as_read rosters) (as_read tallies)) (searched (point x y) found) values.old values.new result }
 {
     let p = Position { x, y };
-    let searched = readings::search_zones(
-        head, zones, cars, spots, starts, entries, rosters, tallies, p, found,
-    );
-    tell_searched(searched, values)
+    let town = ReadTables {
+        head,
+        zones,
+        cars,
+        spots,
+        starts,
+        entries,
+        rosters,
+        tallies,
+    };
+    let searched = readings::search_zones(town, p, found);
+    tell_looked(searched, values)
 }
 
 // Two values: 1 where a zone holds the position and 0 where none does, the levels looked at.
@@ -51,9 +60,17 @@ pub extern "C" fn unwadegiro_scoring(
     ensures { Relays 2 (lent (as_read head) (as_read zones) (as_read cars) (as_read spots) (as_read starts) (as_read entries) (as_read rosters) (as_read tallies)) (scoring_told (point x y)) values.old values.new result }
 {
     let p = Position { x, y };
-    let scoring = readings::scoring_of_spot(
-        head, zones, cars, spots, starts, entries, rosters, tallies, p,
-    );
+    let town = ReadTables {
+        head,
+        zones,
+        cars,
+        spots,
+        starts,
+        entries,
+        rosters,
+        tallies,
+    };
+    let scoring = readings::scoring_of_spot(town, p);
     tell_scoring(scoring, values)
 }
 
@@ -74,10 +91,18 @@ pub extern "C" fn unwadegiro_roster(
 ) -> u32
     ensures { Relays 1 (lent (as_read head) (as_read zones) (as_read cars) (as_read spots) (as_read starts) (as_read entries) (as_read rosters) (as_read tallies)) (roster_told zone inside) values.old values.new result }
 {
-    let roster = readings::roster_of_zone(
-        head, zones, cars, spots, starts, entries, rosters, tallies, zone, inside,
-    );
-    tell_roster(roster, values)
+    let town = ReadTables {
+        head,
+        zones,
+        cars,
+        spots,
+        starts,
+        entries,
+        rosters,
+        tallies,
+    };
+    let roster = readings::roster_of_zone(town, zone, inside);
+    tell_written(roster, values)
 }
 
 // One value: the cars in the zone.
@@ -96,10 +121,18 @@ pub extern "C" fn unwadegiro_count(
 ) -> u32
     ensures { Relays 1 (lent (as_read head) (as_read zones) (as_read cars) (as_read spots) (as_read starts) (as_read entries) (as_read rosters) (as_read tallies)) (count_told zone) values.old values.new result }
 {
-    let count = readings::count_of_zone(
-        head, zones, cars, spots, starts, entries, rosters, tallies, zone,
-    );
-    tell_count(count, values)
+    let town = ReadTables {
+        head,
+        zones,
+        cars,
+        spots,
+        starts,
+        entries,
+        rosters,
+        tallies,
+    };
+    let count = readings::count_of_zone(town, zone);
+    tell_number(count, values)
 }
 
 // Nine values: the cars of each team in the zone, from team 0 on, and the holder.
@@ -118,9 +151,17 @@ pub extern "C" fn unwadegiro_holder(
 ) -> u32
     ensures { Relays 9 (lent (as_read head) (as_read zones) (as_read cars) (as_read spots) (as_read starts) (as_read entries) (as_read rosters) (as_read tallies)) (holder_told zone) values.old values.new result }
 {
-    let holder = readings::holder_of_zone(
-        head, zones, cars, spots, starts, entries, rosters, tallies, zone,
-    );
+    let town = ReadTables {
+        head,
+        zones,
+        cars,
+        spots,
+        starts,
+        entries,
+        rosters,
+        tallies,
+    };
+    let holder = readings::holder_of_zone(town, zone);
     tell_holder(holder, values)
 }
 
@@ -140,9 +181,17 @@ pub extern "C" fn unwadegiro_where(
 ) -> u32
     ensures { Pointed (lent (as_read head) (as_read zones) (as_read cars) (as_read spots) (as_read starts) (as_read entries) (as_read rosters) (as_read tallies)) car position.old position.new result }
 {
-    let found = readings::where_is_car(
-        head, zones, cars, spots, starts, entries, rosters, tallies, car,
-    );
+    let town = ReadTables {
+        head,
+        zones,
+        cars,
+        spots,
+        starts,
+        entries,
+        rosters,
+        tallies,
+    };
+    let found = readings::where_is_car(town, car);
     tell_where(found, position)
 }
 
@@ -161,8 +210,16 @@ pub extern "C" fn unwadegiro_sound(
 ) -> u32
     ensures { Relays 1 (lent (as_read head) (as_read zones) (as_read cars) (as_read spots) (as_read starts) (as_read entries) (as_read rosters) (as_read tallies)) soundness_told values.old values.new result }
 {
-    let soundness = readings::soundness_of_town(
-        head, zones, cars, spots, starts, entries, rosters, tallies,
-    );
+    let town = ReadTables {
+        head,
+        zones,
+        cars,
+        spots,
+        starts,
+        entries,
+        rosters,
+        tallies,
+    };
+    let soundness = readings::soundness_of_town(town);
     tell_soundness(soundness, values)
 }

@@ -4,7 +4,8 @@ ghost use Rattle.promises.specs.Events.{reported, left_map};
 ghost use Rattle.boundary.specs.Promises.{point, Relays};
 
 use position::Position;
-use values::{tell_left, tell_reported};
+use tables::{LeaveTables, ReportTables};
+use values::{tell_looked, tell_reported};
 
 // Three values: the squares looked into, the zones entered, the zones left.
 #[unsafe(no_mangle)]
@@ -28,9 +29,17 @@ pub extern "C" fn unwadegiro_report(
     ensures { Relays 3 (lent (as_read head) (as_read zones) (as_written cars) (as_written spots) (as_read starts) (as_read entries) (as_written rosters) (as_written tallies)) (reported car team (point x y) entered left) values.old values.new result }
 {
     let p = Position { x, y };
-    let reported = cars::report_car(
-        head, zones, cars, spots, starts, entries, rosters, tallies, car, team, p, entered, left,
-    );
+    let town = ReportTables {
+        head,
+        zones,
+        cars,
+        spots,
+        starts,
+        entries,
+        rosters,
+        tallies,
+    };
+    let reported = cars::report_car(town, car, team, p, entered, left);
     tell_reported(reported, values)
 }
 
@@ -51,8 +60,16 @@ pub extern "C" fn unwadegiro_leave(
 ) -> u32
     ensures { Relays 2 (lent (as_read head) (as_read zones) (as_written cars) (as_read spots) (as_read starts) (as_read entries) (as_written rosters) (as_written tallies)) (left_map car left) values.old values.new result }
 {
-    let gone = cars::leave_map(
-        head, zones, cars, spots, starts, entries, rosters, tallies, car, left,
-    );
-    tell_left(gone, values)
+    let town = LeaveTables {
+        head,
+        zones,
+        cars,
+        spots,
+        starts,
+        entries,
+        rosters,
+        tallies,
+    };
+    let gone = cars::leave_map(town, car, left);
+    tell_looked(gone, values)
 }

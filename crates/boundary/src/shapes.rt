@@ -4,9 +4,10 @@ ghost use Rattle.squares.specs.Shape.{shape};
 ghost use Rattle.grid.specs.Promises.{number_gives, square_gives, cut_gives};
 ghost use Rattle.boundary.specs.Promises.{rect, Gives, lengths_gives};
 
-use squares::{Rect, Shape, Shaped};
+use model::Opening;
+use squares::{Rect, Refusal, Shape};
 use tables::TALLY;
-use values::{tell_cut, tell_eight, tell_number, tell_square};
+use values::{tell_number, tell_refusal, tell_square, tell_values, tell_written};
 
 // Eight values: the lengths of the tables.
 #[unsafe(no_mangle)]
@@ -21,25 +22,32 @@ pub extern "C" fn unwadegiro_lengths(
 ) -> u32
     ensures { Gives 8 (lengths_gives (shape k P Q) zones cars entries) [] values.old values.new result }
 {
-    let Shaped::Allowed(s) = Shape::new(k, P, Q) else {
-        return tell_eight(1, 0, 0, 0, 0, 0, 0, 0, 0, values);
+    let o = Opening {
+        shape: Shape { k, P, Q },
+        zones,
+        cars,
+        entries,
     };
-    if !tables::roomy(zones, cars, entries) {
-        return tell_eight(2, 0, 0, 0, 0, 0, 0, 0, 0, values);
+    if !o.shape.allowed() {
+        return tell_refusal::<8>(Refusal::Shape, values);
+    }
+    if !tables::roomy(o) {
+        return tell_refusal::<8>(Refusal::Capacity, values);
     }
     let Z = zones as usize;
     let C = cars as usize;
-    let starts = s.squares() as usize + 1;
-    tell_eight(
-        0,
-        6,
-        4 * Z,
-        C,
-        2 * C,
-        starts,
-        entries as usize,
-        Z * C,
-        Z * TALLY,
+    let starts = o.shape.squares() as usize + 1;
+    tell_values(
+        [
+            6,
+            4 * Z,
+            C,
+            2 * C,
+            starts,
+            entries as usize,
+            Z * C,
+            Z * TALLY,
+        ],
         values,
     )
 }
@@ -91,5 +99,5 @@ pub extern "C" fn unwadegiro_cut(
     ensures { Gives 1 (cut_gives (shape k P Q) (rect a b w h) squares.old) (squares.new ∷ []) values.old values.new result }
 {
     let r = Rect { a, b, w, h };
-    tell_cut(grid::cut_of_rectangle(k, P, Q, r, squares), values)
+    tell_written(grid::cut_of_rectangle(k, P, Q, r, squares), values)
 }

@@ -4,8 +4,10 @@ ghost use Rattle.tables.specs.Lent.{lent, as_read, as_written};
 ghost use Rattle.promises.specs.Events.{asked, opened, added, removed, rode};
 ghost use Rattle.boundary.specs.Promises.{rect, Relays};
 
-use squares::Rect;
-use values::{tell_added, tell_opened, tell_removed, tell_ridden};
+use model::Opening;
+use squares::{Rect, Shape};
+use tables::{OpenTables, ZoneTables};
+use values::{tell_added, tell_done, tell_ridden};
 
 // An empty town.
 #[unsafe(no_mangle)]
@@ -27,9 +29,23 @@ pub extern "C" fn unwadegiro_open(
 ) -> u32
     ensures { Relays 0 (lent (as_written head) (as_written zones) (as_written cars) (as_written spots) (as_written starts) (as_written entries) (as_written rosters) (as_written tallies)) (opened (asked k P Q Z C E)) [] [] result }
 {
-    tell_opened(zones::open_town(
-        head, zones, cars, spots, starts, entries, rosters, tallies, k, P, Q, Z, C, E,
-    ))
+    let town = OpenTables {
+        head,
+        zones,
+        cars,
+        spots,
+        starts,
+        entries,
+        rosters,
+        tallies,
+    };
+    let o = Opening {
+        shape: Shape { k, P, Q },
+        zones: Z,
+        cars: C,
+        entries: E,
+    };
+    tell_done(zones::open_town(town, o))
 }
 
 // Two values: the squares of the zone's cut, the cars inside.
@@ -53,9 +69,17 @@ pub extern "C" fn unwadegiro_add(
     ensures { Relays 2 (lent (as_read head) (as_written zones) (as_read cars) (as_read spots) (as_written starts) (as_written entries) (as_written rosters) (as_written tallies)) (added zone (rect a b w h)) values.old values.new result }
 {
     let r = Rect { a, b, w, h };
-    let added = zones::add_zone(
-        head, zones, cars, spots, starts, entries, rosters, tallies, zone, r,
-    );
+    let town = ZoneTables {
+        head,
+        zones,
+        cars,
+        spots,
+        starts,
+        entries,
+        rosters,
+        tallies,
+    };
+    let added = zones::add_zone(town, zone, r);
     tell_added(added, values)
 }
 
@@ -74,9 +98,17 @@ pub extern "C" fn unwadegiro_remove(
 ) -> u32
     ensures { Relays 0 (lent (as_read head) (as_written zones) (as_read cars) (as_read spots) (as_written starts) (as_written entries) (as_written rosters) (as_written tallies)) (removed zone) [] [] result }
 {
-    tell_removed(zones::remove_zone(
-        head, zones, cars, spots, starts, entries, rosters, tallies, zone,
-    ))
+    let town = ZoneTables {
+        head,
+        zones,
+        cars,
+        spots,
+        starts,
+        entries,
+        rosters,
+        tallies,
+    };
+    tell_done(zones::remove_zone(town, zone))
 }
 
 // Four values: the squares dropped, the squares taken up, the cars entered, the cars left.
@@ -99,8 +131,16 @@ pub extern "C" fn unwadegiro_ride(
 ) -> u32
     ensures { Relays 4 (lent (as_read head) (as_written zones) (as_read cars) (as_read spots) (as_written starts) (as_written entries) (as_written rosters) (as_written tallies)) (rode zone dx dy entered left) values.old values.new result }
 {
-    let ridden = zones::ride_zone(
-        head, zones, cars, spots, starts, entries, rosters, tallies, zone, dx, dy, entered, left,
-    );
+    let town = ZoneTables {
+        head,
+        zones,
+        cars,
+        spots,
+        starts,
+        entries,
+        rosters,
+        tallies,
+    };
+    let ridden = zones::ride_zone(town, zone, dx, dy, entered, left);
     tell_ridden(ridden, values)
 }

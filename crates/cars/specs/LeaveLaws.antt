@@ -2,21 +2,23 @@
 use Rattle.std.specs.Prelude.{ℕ, ◌+◌, ◌<◌, ◌≤◌, ◌≡◌, true, List, [], ◌∷◌, length, take, set}
 use Rattle.std.proofs.Math.Path.{refl}
 use Rattle.std.proofs.Common.{ap, sym, ◌∙◌, leb-true, ltb-true}
+use Rattle.std.specs.declared.option.Option.{Option}
+use Rattle.std.specs.declared.option.Option.TheVariants.{None, Some}
+use Rattle.std.specs.declared.result.Result.TheVariants.{Ok}
 use Rattle.order.specs.BufferLaws.{Front, front-shown}
 use Rattle.order.specs.TestLaws.{true-not-false}
 use Rattle.squares.specs.declared.shape.Shape.{Shape}
+use Rattle.squares.specs.declared.shape.Cell.{Cell}
 use Rattle.squares.specs.Squares.{squares}
 use Rattle.squares.specs.Leaves.{OnMap}
 use Rattle.squares.specs.Refusals.{first}
-use Rattle.squares.specs.RefusalLaws.{clear}
+use Rattle.squares.specs.RefusalLaws.{clear, after as past-clear, enough}
 use Rattle.position.specs.declared.Position.{Position}
-use Rattle.position.specs.declared.Spot.{Spot}
 use Rattle.position.specs.Answer.{on_town, column_of, row_of}
 use Rattle.position.specs.Spots.{spot_on}
 use Rattle.position.specs.Laws.{column-below, row_below}
-use Rattle.model.specs.declared.answers.Left.{Left}
 use Rattle.model.specs.Answers.{numbers, left_is}
-use Rattle.model.specs.Model.{leaving, car_off, zones_of, meaning}
+use Rattle.model.specs.Model.{leaving, ask_where, car_off, zones_of, meaning}
 use Rattle.tables.specs.Tables.{Tables, tables, shape_of, zone_room, car_room, placed, spot_of, town_of, zone_holds, roster_has}
 use Rattle.tables.specs.Sizes.{Sized}
 use Rattle.tables.specs.CheckLaws.{sized→}
@@ -31,7 +33,7 @@ use Rattle.promises.specs.PromiseLaws.{keeps-done}
 use Rattle.rosters.specs.Rosters.{stamped}
 use Rattle.tallies.specs.Counts.{moved}
 use Rattle.edits.specs.StampLaws.{departed-is}
-use Rattle.lookup.specs.declared.looks.Looked.{Looked}
+use Rattle.model.specs.declared.answers.Looked.{Looked}
 use Rattle.lookup.specs.Looks.{Looks}
 use Rattle.lookup.specs.LookLaws.{looked-holds}
 use Rattle.lookup.specs.SpotLaws.{spot-off, spot_on_lem, spot-asks}
@@ -50,24 +52,29 @@ leavable t c b none =
     let h = clear (means t (leaving c b)).checks refl none in
     record { none = none; size = sized→ t h.0; car = ltb-true c (car_room t) h.1.0; on-map = sym (placed-known t c) ∙ h.1.1.0; enough = leb-true (zone_room t) (length b) h.1.1.1.0 }
 
-module _ {t : Tables} {c : ℕ} {b : List ℕ} (ok : Leavable t c b) {s : Shape} {spot : Spot} {q : Position} (shape : s ≡ shape_of t) (stored : q ≡ spot_of t c) (at : spot ≡ spot_on s q) where
+-- a car on the map, and room for the zones that it leaves
+pub may-leave : (t : Tables) (c : ℕ) (b : List ℕ) {n : ℕ} → bars t (ask_where c) ≡ 0 → n ≡ zone_room t → n ≤ length b → Leavable t c b
+unfolding meaning
+may-leave t c b none many room = leavable t c b (sym (past-clear 1 (means t (ask_where c)).checks _ (clear (means t (ask_where c)).checks refl none) (enough many room, tt)))
+
+module _ {t : Tables} {c : ℕ} {b : List ℕ} (ok : Leavable t c b) {s : Shape} {spot : Option Cell} {q : Position} (shape : s ≡ shape_of t) (stored : q ≡ spot_of t c) (at : spot ≡ spot_on s q) where
   where-is : spot ≡ spot_on s (spot_of t c)
   where-is = at ∙ ap (spot_on s) stored
 
   -- a placed car that is not on the map, which sound tables have not
-  pub lost-kept : spot ≡ Spot.Off → (t' : Tables) → Keeps (both t t') (event (leaving c b) (b ∷ []) (left_is (Left.Done 0 0)))
+  pub lost-kept : spot ≡ None → (t' : Tables) → Keeps (both t t') (event (leaving c b) (b ∷ []) (left_is (Ok (record { squares = 0; zones = 0 }))))
   unfolding meaning
   lost-kept e t' = keeps-done t (leaving c b) _ t' (numbers (0 ∷ 0 ∷ [])) ok.none refl
       (λ any sound. absurd (true-not-false _ (sound.cars c ok.on-map) (spot-off t (spot_of t c) ok.size shape where-is e)))
 
-  module _ {x y : ℕ} (e : spot ≡ Spot.Cell x y) where
-    stood : (on_town (shape_of t) (spot_of t c) ≡ true) × (column_of (shape_of t) (spot_of t c) ≡ x) × (row_of (shape_of t) (spot_of t c) ≡ y)
-    stood = spot_on_lem t (spot_of t c) ok.size shape where-is x y e
+  module _ {cell : Cell} (e : spot ≡ Some cell) where
+    stood : (on_town (shape_of t) (spot_of t c) ≡ true) × (column_of (shape_of t) (spot_of t c) ≡ cell.x) × (row_of (shape_of t) (spot_of t c) ≡ cell.y)
+    stood = spot_on_lem t (spot_of t c) ok.size shape where-is cell e
 
-    pub leave-asks : OnMap s x y × (length t.derived.starts ≡ squares s + 1)
-    leave-asks = spot-asks t (spot_of t c) ok.size shape where-is x y e
+    pub leave-asks : OnMap s cell.x cell.y × (length t.derived.starts ≡ squares s + 1)
+    leave-asks = spot-asks t (spot_of t c) ok.size shape where-is cell e
 
-    module _ {b' : List ℕ} {r : Looked} (h : Looks s x y t.derived.starts t.derived.entries b b' r) where
+    module _ {b' : List ℕ} {r : Looked} (h : Looks s cell.x cell.y t.derived.starts t.derived.entries b b' r) where
       found : Sound t → Front b b' r.zones (zones_of (town_of t) c)
       unfolding zone_holds
       found sound =
@@ -83,7 +90,7 @@ module _ {t : Tables} {c : ℕ} {b : List ℕ} (ok : Leavable t c b) {s : Shape}
         unfolding roster_has
         steps sound = rw (car, gone, fewer, room, team) (departed-is t sound c ok.car ok.on-map (take r.zones b') (front-shown (found sound)))
 
-        pub leave-kept : Keeps (both t after) (event (leaving c b) (b' ∷ []) (left_is (Left.Done r.squares r.zones)))
+        pub leave-kept : Keeps (both t after) (event (leaving c b) (b' ∷ []) (left_is (Ok (record { squares = r.squares; zones = r.zones }))))
         unfolding meaning first
         leave-kept = keeps-done t (leaving c b) _ after (numbers (r.squares ∷ r.zones ∷ [])) ok.none refl
             (λ any sound. (refl, (rw (h.squares, shape, (found sound).count, (found sound).written), steps sound)))

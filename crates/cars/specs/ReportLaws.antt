@@ -2,13 +2,13 @@
 use Rattle.std.specs.Prelude.{ℕ, ◌+◌, ◌*◌, ◌<◌, ◌≤◌, ◌≡◌, List, [], ◌∷◌, Float, length, take, set}
 use Rattle.std.proofs.Math.Path.{refl}
 use Rattle.std.proofs.Common.{arith}
+use Rattle.std.specs.declared.result.Result.TheVariants.{Ok}
 use Rattle.order.specs.BufferLaws.{front-shown}
 use Rattle.squares.specs.declared.shape.Shape.{Shape}
 use Rattle.squares.specs.Squares.{squares}
 use Rattle.squares.specs.Leaves.{OnMap}
 use Rattle.squares.specs.Refusals.{first}
 use Rattle.position.specs.declared.Position.{Position}
-use Rattle.model.specs.declared.answers.Reported.{Reported}
 use Rattle.model.specs.Answers.{numbers, reported_is}
 use Rattle.model.specs.Model.{reporting, car_at, meaning}
 use Rattle.tables.specs.Tables.{Tables, tables, shape_of, car_room, zone_holds, roster_has}
@@ -21,7 +21,7 @@ use Rattle.promises.specs.PromiseLaws.{keeps-done}
 use Rattle.rosters.specs.Rosters.{stamped}
 use Rattle.tallies.specs.Counts.{moved}
 use Rattle.edits.specs.StampLaws.{reported-is}
-use Rattle.lookup.specs.declared.looks.Crossed.{Crossed}
+use Rattle.model.specs.declared.answers.Crossed.{Crossed}
 use Rattle.lookup.specs.Looks.{Sees}
 use Rattle.lookup.specs.SpotLaws.{look-asks}
 use Rattle.cars.specs.Admits.{Reportable}
@@ -51,7 +51,7 @@ module _ {t : Tables} {c g : ℕ} {p : Position} {x y : ℕ} {e l : List ℕ} (o
         unfolding zone_holds roster_has
         steps sound k = rw (car, spot, gone, came, fewer, more, room) (reported-is t sound c ok.car (record { position = p; team = g }) ok.team (take r.entered e') (take r.left l') (front-shown k.came) (front-shown k.gone))
 
-        pub report-kept : Keeps (both t after) (event (reporting c g p e l) (e' ∷ l' ∷ []) (reported_is (Reported.Done r.squares r.entered r.left)))
+        pub report-kept : Keeps (both t after) (event (reporting c g p e l) (e' ∷ l' ∷ []) (reported_is (Ok (record { squares = r.squares; entered = r.entered; left = r.left }))))
         unfolding meaning first
         report-kept = keeps-done t (reporting c g p e l) _ after (numbers (r.squares ∷ r.entered ∷ r.left ∷ [])) ok.none refl
             (λ any sound.

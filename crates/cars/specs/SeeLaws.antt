@@ -4,19 +4,21 @@ use Rattle.std.proofs.Math.Path.{ap, sym}
 use Rattle.std.proofs.Common.{subst, ◌∙◌, arith}
 use Rattle.std.proofs.Math.Logic.{⊎_elim}
 use Rattle.std.proofs.Math.Bool.{and-true}
+use Rattle.std.specs.declared.option.Option.{Option}
+use Rattle.std.specs.declared.option.Option.TheVariants.{None, Some}
 use borrow.Author.Tests.{eqb-true, not-false}
 use Rattle.order.specs.Order.{upto}
 use Rattle.order.specs.BufferLaws.{Front, front-none, front-within}
 use Rattle.order.specs.TestLaws.{true-or-false, true-not-false}
 use Rattle.order.specs.KeepLaws.{keep-ext, keep-none}
 use Rattle.squares.specs.declared.shape.Shape.{Shape}
+use Rattle.squares.specs.declared.shape.Cell.{Cell}
 use Rattle.squares.specs.Bounds.{Allowed}
 use Rattle.squares.specs.Squares.{number}
 use Rattle.squares.specs.Leaves.{OnMap}
 use Rattle.squares.specs.ShapeLaws.{→allowed}
 use Rattle.squares.specs.DifferLaws.{differ-count}
 use Rattle.position.specs.declared.Position.{Position}
-use Rattle.position.specs.declared.Spot.{Spot}
 use Rattle.position.specs.Answer.{on_town, column_of, row_of}
 use Rattle.position.specs.Spots.{spot_on}
 use Rattle.position.specs.Laws.{column-below, row_below, off-town, on-town}
@@ -25,23 +27,23 @@ use Rattle.tables.specs.Tables.{Tables, shape_of, zone_room, placed_in, placed, 
 use Rattle.tables.specs.CheckLaws.{sized→}
 use Rattle.tables.specs.Sound.{Sound}
 use Rattle.tables.specs.RecordLaws.{car-in, car-out}
-use Rattle.lookup.specs.declared.looks.Crossed.{Crossed}
+use Rattle.model.specs.declared.answers.Crossed.{Crossed}
 use Rattle.lookup.specs.Looks.{Crosses, Enters, Sees}
 use Rattle.lookup.specs.LookLaws.{looked-holds, looked-apart, cross-same}
 
 -- ---- where the car was
 
-module _ {s : Shape} {spot : Spot} {q old : Position} (shape : Allowed s) (stored : q ≡ old) (at : spot ≡ spot_on s q) where
+module _ {s : Shape} {spot : Option Cell} {q old : Position} (shape : Allowed s) (stored : q ≡ old) (at : spot ≡ spot_on s q) where
   was : spot_on s old ≡ spot
   was = ap (spot_on s) (sym stored) ∙ sym at
 
-  was-off : spot ≡ Spot.Off → on_town s old ≡ false
+  was-off : spot ≡ None → on_town s old ≡ false
   was-off e = off-town s old (→allowed s shape) (was ∙ e)
 
-  was-on : {x y : ℕ} → spot ≡ Spot.Cell x y → (on_town s old ≡ true) × (column_of s old ≡ x) × (row_of s old ≡ y)
-  was-on {x} {y} e = on-town s old x y (→allowed s shape) (was ∙ e)
+  was-on : {cell : Cell} → spot ≡ Some cell → (on_town s old ≡ true) × (column_of s old ≡ cell.x) × (row_of s old ≡ cell.y)
+  was-on {cell} e = on-town s old cell (→allowed s shape) (was ∙ e)
 
-  pub old-map : {x y : ℕ} → spot ≡ Spot.Cell x y → OnMap s x y
+  pub old-map : {cell : Cell} → spot ≡ Some cell → OnMap s cell.x cell.y
   old-map e = let h = was-on e in rw (← h.1, ← h.2) (record { shape = shape; column = column-below s old shape; row = row_below s old shape })
 
 -- ---- how it is seen
@@ -50,19 +52,19 @@ module _ {s : Shape} {zones cars : List ℕ} {spots : List Float} {starts entrie
   pub sees-entering : {e' : List ℕ} {r : Crossed} → placed_in cars c ≡ false → Enters s x y starts entries e e' r → Sees s zones cars spots starts entries c x y e e' l l r
   sees-entering off h = record { new = λ q. (h, refl); moved = λ on q. absurd (true-not-false (placed_in cars c) on off); came = front-within h.entered; gone = omega (arith, h.left) }
 
-  module _ (on : placed_in cars c ≡ true) (shape : Allowed s) {spot : Spot} {q : Position} (stored : q ≡ spot_in spots c) (at : spot ≡ spot_on s q) where
+  module _ (on : placed_in cars c ≡ true) (shape : Allowed s) {spot : Option Cell} {q : Position} (stored : q ≡ spot_in spots c) (at : spot ≡ spot_on s q) where
     -- a placed car that is not on the map, which sound tables have not
-    pub sees-lost : spot ≡ Spot.Off → {e' : List ℕ} {r : Crossed} → Enters s x y starts entries e e' r → Sees s zones cars spots starts entries c x y e e' l l r
+    pub sees-lost : spot ≡ None → {e' : List ℕ} {r : Crossed} → Enters s x y starts entries e e' r → Sees s zones cars spots starts entries c x y e e' l l r
     sees-lost off h = record { new = λ q. absurd (true-not-false (placed_in cars c) on q); moved = λ q town. absurd (true-not-false (on_town s (spot_in spots c)) town (was-off shape stored at off)); came = front-within h.entered; gone = omega (arith, h.left) }
 
-    module _ {x' y' : ℕ} (cell : spot ≡ Spot.Cell x' y') where
-      pub sees-crossing : {e' l' : List ℕ} {r : Crossed} → Crosses s zones starts entries x' y' x y e e' l l' r → Sees s zones cars spots starts entries c x y e e' l l' r
+    module _ {old : Cell} (cell : spot ≡ Some old) where
+      pub sees-crossing : {e' l' : List ℕ} {r : Crossed} → Crosses s zones starts entries old.x old.y x y e e' l l' r → Sees s zones cars spots starts entries c x y e e' l l' r
       sees-crossing h =
           let stood = was-on shape stored at cell in
           record { new = λ q. absurd (true-not-false (placed_in cars c) on q); moved = λ q town. rw (stood.1, stood.2) h; came = front-within h.entered; gone = front-within h.left }
 
       -- the car's own cell
-      pub sees-same : x' ≡ x → y' ≡ y → Sees s zones cars spots starts entries c x y e e l l (record { squares = 0; entered = 0; left = 0 })
+      pub sees-same : old.x ≡ x → old.y ≡ y → Sees s zones cars spots starts entries c x y e e l l (record { squares = 0; entered = 0; left = 0 })
       sees-same f g = sees-crossing (rw (f, g) (cross-same s zones starts entries x y e l))
 
 -- ---- on sound tables

@@ -25,13 +25,11 @@ pub fn set_places(s: Shape, r: Rect, places: &mut [usize]) -> usize
 {
     let mut total = 0u32;
     let mut above = 0u32;
-    let mut level = 0u32;
-    while level <= s.k {
+    for level in 0..=s.k {
         places[level as usize] = total as usize;
         let inside = wholes(r.a, r.w, s.k - level) * wholes(r.b, r.h, s.k - level);
         total += inside - 4 * above;
         above = inside;
-        level += 1;
     }
     total as usize
 }

@@ -5,73 +5,62 @@ ghost use Rattle.cuts.specs.Descent.{found_on, codes_in_row};
 ghost use Rattle.cuts.specs.Lay.{Lays};
 
 use crate::count::set_places;
-use squares::{Rect, Shape};
+use squares::{Rect, Shape, Square};
 
-// Stores the square with number n on a level, corner (x, y) and side d at its level's next place
-// if it lies inside. Answers whether its children are to be looked at.
+// Stores the square with number n on a level at its level's next place if it lies inside. Answers
+// whether its children are to be looked at.
 fn take_square(
     r: Rect,
     level: usize,
-    x: u32,
-    y: u32,
-    d: u32,
+    q: Square,
     n: u32,
     out: &mut [u32],
     next: &mut [usize],
 ) -> bool
-    requires { Room r level x y d n next.old }
-    ensures { Takes r level x y d n out.old out.new next.old next.new result }
+    requires { Room r level q.x q.y q.side n next.old }
+    ensures { Takes r level q.x q.y q.side n out.old out.new next.old next.new result }
 {
-    if r.within(x, y, d) {
+    if r.within(q) {
         let at = next[level];
         order::store(out, at, level as u32 * 1048576 + n);
         next[level] = at + 1;
         return false;
     }
     if level + 1 < next.len() {
-        return r.meets(x, y, d);
+        return r.meets(q);
     }
     false
 }
 
 // Stores the squares of the cut in a square that is partly inside, child by child in the order of
 // their numbers.
-fn descend(
-    r: Rect,
-    level: usize,
-    x: u32,
-    y: u32,
-    d: u32,
-    n: u32,
-    out: &mut [u32],
-    next: &mut [usize],
-)
-    requires { Crossed r level x y d n next.old }
-    ensures { Lays (found_on r level x y d n) out.old out.new next.old next.new }
+fn descend(r: Rect, level: usize, q: Square, n: u32, out: &mut [u32], next: &mut [usize])
+    requires { Crossed r level q.x q.y q.side n next.old }
+    ensures { Lays (found_on r level q.x q.y q.side n) out.old out.new next.old next.new }
 {
     let below = level + 1;
-    let half = d / 2;
-    let mut c = 0u32;
-    while c < 4 {
-        let east = x + c % 2 * half;
-        let north = y + c / 2 * half;
+    let side = q.side / 2;
+    for c in 0..4 {
+        let child = Square {
+            x: q.x + c % 2 * side,
+            y: q.y + c / 2 * side,
+            side,
+        };
         let number = 4 * n + c;
-        if take_square(r, below, east, north, half, number, out, next) {
-            descend(r, below, east, north, half, number, out, next);
+        if take_square(r, below, child, number, out, next) {
+            descend(r, below, child, number, out, next);
         }
-        c += 1;
     }
 }
 
-// Stores the squares of the cut in the block with number n, corner (x, y) and side d.
-fn cut_block(r: Rect, x: u32, y: u32, d: u32, n: u32, out: &mut [u32], next: &mut [usize])
-    requires { Room r 0 x y d n next.old }
-    ensures { Lays (found_on r 0 x y d n) out.old out.new next.old next.new }
+// Stores the squares of the cut in the block with number n.
+fn cut_block(r: Rect, q: Square, n: u32, out: &mut [u32], next: &mut [usize])
+    requires { Room r 0 q.x q.y q.side n next.old }
+    ensures { Lays (found_on r 0 q.x q.y q.side n) out.old out.new next.old next.new }
 {
-    if !take_square(r, 0, x, y, d, n, out, next) {
-        return;
+    if take_square(r, 0, q, n, out, next) {
+        descend(r, 0, q, n, out, next);
     }
-    descend(r, 0, x, y, d, n, out, next);
 }
 
 // Stores the squares of the cut in one row of blocks.
@@ -81,18 +70,13 @@ fn cut_row(s: Shape, r: Rect, row: u32, out: &mut [u32], next: &mut [usize])
 {
     let side = s.side();
     let end = (r.a + r.w - 1) / side + 1;
-    let mut column = r.a / side;
-    while column < end {
-        cut_block(
-            r,
-            column * side,
-            row * side,
+    for column in r.a / side..end {
+        let q = Square {
+            x: column * side,
+            y: row * side,
             side,
-            row * s.P + column,
-            out,
-            next,
-        );
-        column += 1;
+        };
+        cut_block(r, q, row * s.P + column, out, next);
     }
 }
 
@@ -103,10 +87,8 @@ fn cut_rows(s: Shape, r: Rect, out: &mut [u32], next: &mut [usize])
 {
     let side = s.side();
     let end = (r.b + r.h - 1) / side + 1;
-    let mut row = r.b / side;
-    while row < end {
+    for row in r.b / side..end {
         cut_row(s, r, row, out, next);
-        row += 1;
     }
 }
 

@@ -3,7 +3,7 @@ ghost use Rattle.std.specs.Prelude.{◌≡◌};
 ghost use Rattle.cuts.specs.Cut.{in_cut};
 ghost use Rattle.cuts.specs.Leaves.{Both};
 
-use squares::{Rect, Shape};
+use squares::{Rect, Shape, Square};
 
 // Whether a square is in the cut of a rectangle. The parent begins where the square does, or a side before
 // it: west of its eastern two squares, south of its northern two.
@@ -12,13 +12,16 @@ pub fn in_cut(s: Shape, r: Rect, level: u32, n: u32) -> bool
     ensures { result ≡ in_cut s r level n }
 {
     let q = s.square(level, n);
-    if !r.within(q.x, q.y, q.side) {
+    if !r.within(q) {
         return false;
     }
     if level == 0 {
         return true;
     }
-    let x = q.x - n % 2 * q.side;
-    let y = q.y - n / 2 % 2 * q.side;
-    !r.within(x, y, 2 * q.side)
+    let parent = Square {
+        x: q.x - n % 2 * q.side,
+        y: q.y - n / 2 % 2 * q.side,
+        side: 2 * q.side,
+    };
+    !r.within(parent)
 }

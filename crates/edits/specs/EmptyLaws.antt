@@ -16,7 +16,8 @@ use Rattle.order.specs.KeepLaws.{keep-none, length-span}
 use Rattle.squares.specs.declared.shape.Rect.{Rect}
 use Rattle.squares.specs.Bounds.{Allowed}
 use Rattle.squares.specs.Squares.{squares}
-use Rattle.model.specs.Model.{Opening, Car, Town, emptied, after}
+use Rattle.model.specs.Model.{Car, Town, emptied, after}
+use Rattle.model.specs.declared.opening.Opening.{Opening}
 use Rattle.tables.specs.Tables.{Derived, tally, stands, placed, roster_has, town_of}
 use Rattle.tables.specs.RecordLaws.{zone-out, car-out, roster-has}
 use Rattle.tables.specs.Sizes.{Roomy}

@@ -1,11 +1,14 @@
 -- Laws of merging from the back: how the loop begins, turns and ends.
 use Rattle.std.specs.Prelude.{◌≡◌, ℕ, zero, suc, ◌+◌, ◌-◌, ◌*◌, ◌<◌, ◌≤◌, true, false, List, [], ◌∷◌, ◌++◌, length, take, drop, set, slice_index, slice_index_or, slice_set, refl}
-use Rattle.std.proofs.Common.{ap, sym, ◌∙◌, inl, inr, ⊎_elim, arith, add-zero, length-append, length-set, take-append-drop, length-take-le, take-suc, take-take, take_at, drop_at, get_or-take, take_all, ne_eqb, ltb-true, ltb-false}
+use Rattle.std.proofs.Common.{ap, ap₂, sym, ◌∙◌, inl, inr, ⊎_elim, arith, add-zero, length-append, length-drop, length-set, take-append-drop, length-take-le, take-suc, take-take, take_at, drop_at, get_or-drop, get_or-take, take_all, ne_eqb, lt-ltb, ltb-true, ltb-false}
 use mathlib.Core.List.Memᴰ
 use mathlib.Core.List.{append-nil, append_assoc, Memᴰ}
 use Rattle.std.proofs.Math.ListN.{get_or-append}
 use Rattle.std.proofs.Math.Seq.{append_snoc}
-use Rattle.std.proofs.lemmas.List.{set_at}
+use Rattle.std.proofs.lemmas.List.{set_at, take-set-le, drop-set-add}
+use Rattle.std.proofs.lemmas.Grind.{drop-set_at}
+use Rattle.std.proofs.lemmas.List.Edits.{paste_none}
+use lib.Seq.{paste}
 use Rattle.order.specs.Rising.{Rising, none, more}
 use Rattle.order.specs.TestLaws.{lt-or-le, true-not-false}
 use Rattle.order.specs.RisingLaws.{member-at}
@@ -86,6 +89,32 @@ limit-turns {starts} {n} {e} {end} {key} {i} k f =
       above = λ g (q : ℕ) (a : i - 1 ≤ q) (b : q < end). ⊎_elim (λ (h : q < i). let s : q ≡ i - 1 = omega arith in rw s last.1) (λ (h : i ≤ q). k.above g q h b) (lt-or-le q i);
     }
 
+-- it is where the entry before is below the key, or where there is none
+pub seat-above : {starts : List ℕ} {n : ℕ} {e : List ℕ} {end key i : ℕ} → Limit starts n e end key i → 0 < i → slice_index e (i - 1) < key → Seat starts n e end key i
+unfolding ends_below
+seat-above {e} {key} {i} k h g = record { limit = k; below = rw (ne_eqb i 0 (λ (z : i ≡ 0). omega arith)) (lt-ltb (slice_index e (i - 1)) key g) }
+
+pub seat-first : {starts : List ℕ} {n : ℕ} {e : List ℕ} {end key : ℕ} → Limit starts n e end key 0 → Seat starts n e end key 0
+unfolding ends_below
+seat-first k = record { limit = k; below = refl }
+
+-- as it is among the first entries alone
+pub seat-front : {starts : List ℕ} {n : ℕ} (e : List ℕ) (end : ℕ) {key r : ℕ} → end ≤ length e → Seat starts n (take end e) (length (take end e)) key r → Seat starts n e end key r
+unfolding ends_below
+seat-front {starts} {n} e end {key} {r} h k =
+    let many = length-take-le end e h in
+    let same : (i : ℕ) → i < end → slice_index (take end e) i ≡ slice_index e i = λ i b. get_or-take end e i 0 b in
+    record {
+      limit = record {
+        within = omega (arith, k.limit.within);
+        above = λ g (i : ℕ) (a : r ≤ i) (b : i < end). rw (same i b) at (k.limit.above (λ p x y j z w. rw (same j (omega arith)) (g p x y j z (omega arith))) i a (omega arith));
+      };
+      below = ⊎_elim
+          (λ (b : r < 1). let z : r ≡ 0 = omega arith in rw z)
+          (λ (b : 1 ≤ r). rw (same (r - 1) (omega (arith, k.limit.within))) at k.below)
+          (lt-or-le r 1);
+    }
+
 -- ---- a range moved up
 
 pub moved_more : (from by end : ℕ) (e : List ℕ) → from < end → moved_up from by (end - from) e ≡ moved_up from by (end - 1 - from) (slice_set e (end - 1 + by) (slice_index e (end - 1)))
@@ -99,6 +128,25 @@ moved_more from by end e h =
 pub moved_all : (from by end : ℕ) (e : List ℕ) → end ≤ from → moved_up from by (end - from) e ≡ e
 unfolding moved_up
 moved_all from by end e h = let k : end - from ≡ 0 = omega arith in rw k
+
+-- it is a copy of the range
+pub moved-over : (from by d : ℕ) (e : List ℕ) → from + d + by ≤ length e → moved_up from by d e ≡ paste e (from + by) (drop from e) d
+unfolding moved_up
+moved-over from by zero e h = paste_none e (from + by) (drop from e)
+moved-over from by (suc d) e h =
+    let k = from + d + by in
+    let x = slice_index_or e (from + d) 0 in
+    let at : from + by + d ≡ k = omega arith in
+    let next : k + 1 ≡ from + by + suc d = omega arith in
+    let below : take (from + by) (set e k x) ≡ take (from + by) e = take-set-le (from + by) e k x (omega arith) in
+    let same : take d (drop from (set e k x)) ≡ take d (drop from e) = ap (λ (n : ℕ). take d (drop from (set e n x))) (omega arith) ∙ ap (take d) (drop-set-add from e (d + by) x) ∙ take-set-le d (drop from e) (d + by) x (omega arith) in
+    let above : drop (from + by + d) (set e k x) ≡ x ∷ drop (k + 1) e = drop-set_at e k (from + by + d) x at (omega arith) in
+    let one : take (suc d) (drop from e) ≡ take d (drop from e) ++ (x ∷ []) = take-suc (drop from e) d 0 (omega (arith, length-drop from e)) ∙ ap (λ (y : ℕ). take d (drop from e) ++ (y ∷ [])) (get_or-drop from e d 0) in
+    let over : paste (set e k x) (from + by) (drop from (set e k x)) d ≡ paste e (from + by) (drop from e) (suc d) =
+    ap₂ (λ (a b : List ℕ). a ++ b) (ap₂ (λ (a b : List ℕ). a ++ b) below same) above
+    ∙ sym (append_snoc (take (from + by) e ++ take d (drop from e)) x (drop (k + 1) e))
+    ∙ ap₂ (λ (a b : List ℕ). a ++ b) (append_assoc (take (from + by) e) (take d (drop from e)) (x ∷ []) ∙ ap (λ (a : List ℕ). take (from + by) e ++ a) (sym one)) (ap (λ (n : ℕ). drop n e) next) in
+    moved-over from by d (set e k x) (omega (arith, length-set e k x)) ∙ over
 
 -- ---- merging from the back
 

@@ -3,7 +3,6 @@ ghost use Rattle.std.specs.Prelude.{◌≤◌, length};
 ghost use Rattle.entries.specs.Drops.{Packed, Passed};
 
 use starts::{place_after, shift_to};
-use tables::fill_words;
 
 // The free mark.
 pub const FREE: u32 = 4294967295;
@@ -17,17 +16,15 @@ fn pack_keys(starts: &mut [u32], entries: &mut [u32], z: u32) -> usize
     let mut p = 0;
     let mut by = 0u32;
     let mut kept = 0;
-    let mut i = 0;
-    while i < entries.len() {
+    for i in 0..entries.len() {
         let key = entries[i];
         entries[kept] = key;
-        i += 1;
         if key % 256 != z {
             kept += 1;
             continue;
         }
         p = shift_to(starts, p, place_after(key, many), by);
-        by = std::num::wrapping_sub_u32(by, 1);
+        by = by.wrapping_sub(1);
     }
     shift_to(starts, p, many, by);
     kept
@@ -40,5 +37,5 @@ pub fn pass_keys(starts: &mut [u32], entries: &mut [u32], z: u32, u: usize)
     ensures { Passed z u starts.old starts.new entries.old entries.new }
 {
     let kept = pack_keys(starts, &mut entries[..u], z);
-    fill_words(&mut entries[kept..u], FREE);
+    entries[kept..u].fill(FREE);
 }

@@ -4,7 +4,6 @@ ghost use Rattle.entries.specs.Gaps.{SlideRoom, slid, Skips, Finds, Closes};
 
 use crate::entries::FREE;
 use order::rank_of;
-use tables::fill_words;
 
 // Moves the numbers from one place up to an end down by so many places.
 pub fn move_down(list: &mut [u32], from: usize, end: usize, by: usize)
@@ -14,11 +13,7 @@ pub fn move_down(list: &mut [u32], from: usize, end: usize, by: usize)
     if by == 0 {
         return;
     }
-    let mut i = from;
-    while i < end {
-        list[i - by] = list[i];
-        i += 1;
-    }
+    list.copy_within(from..end, from - by);
 }
 
 // How many of the entries from `from` on, of so many, lie before the place of a key, by its start.
@@ -59,18 +54,14 @@ pub fn close_gaps(starts: &[u32], n: usize, entries: &mut [u32], u: usize)
     ensures { Closes n u starts.now entries.old entries.new }
 {
     let mut from = 0;
-    let mut gone = 0;
-    while gone < n {
-        let key = starts[gone];
-        let at = from + find_key(starts, n, &entries[from..u], from, key);
+    for (gone, key) in starts[..n].iter().enumerate() {
+        let at = from + find_key(starts, n, &entries[from..u], from, *key);
         if at == u {
             return;
         }
         move_down(entries, from, at, gone);
         from = at + 1;
-        gone += 1;
     }
-    move_down(entries, from, u, gone);
-    let left = u - gone;
-    fill_words(&mut entries[left..u], FREE);
+    move_down(entries, from, u, n);
+    entries[u - n..u].fill(FREE);
 }

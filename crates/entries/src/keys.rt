@@ -22,10 +22,8 @@ pub fn key_codes(s: Shape, z: u32, codes: &mut [u32])
     requires { (i : ℕ) → i < length codes.old → Coded s z (slice_index codes.old i) }
     ensures { codes.new ≡ map (code_key s z) codes.old }
 {
-    let mut i = 0;
-    while i < codes.len() {
-        codes[i] = code_key(s, z, codes[i]);
-        i += 1;
+    for code in codes.iter_mut() {
+        *code = code_key(s, z, *code);
     }
 }
 
@@ -39,7 +37,7 @@ pub fn write_keys_into(s: Shape, r: Rect, z: u32, keys: &mut [u32]) -> usize
     n
 }
 
-// The same in a buffer that has room for a town's squares.
+// The same in a buffer that has room for a town's squares. It stands beside the other for what it promised (DECISIONS 93).
 pub fn write_keys(s: Shape, r: Rect, z: u32, keys: &mut [u32]) -> usize
     requires { KeyRoom s r z keys.old }
     ensures { Keyed s r z keys.old keys.new result }

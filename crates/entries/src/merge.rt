@@ -2,7 +2,7 @@
 ghost use Rattle.std.specs.Prelude.{◌≡◌, ℕ, ◌+◌, ◌-◌, ◌≤◌, List, length, take};
 ghost use Rattle.entries.specs.Merge.{moved_up, Limit, Seat, Merged};
 
-use order::{ends_below, wide};
+use order::wide;
 use starts::place_after;
 
 // Moves the entries from one place up to another so many places up, the last one first.
@@ -10,10 +10,8 @@ pub fn move_up(entries: &mut [u32], from: usize, end: usize, by: usize)
     requires { end + by ≤ length entries.old }
     ensures { entries.new ≡ moved_up from by (end - from) entries.old }
 {
-    let mut i = end;
-    while from < i {
-        i -= 1;
-        entries[i + by] = entries[i];
+    if from < end {
+        entries.copy_within(from..end, from + by);
     }
 }
 
@@ -22,30 +20,23 @@ pub fn move_up(entries: &mut [u32], from: usize, end: usize, by: usize)
 pub fn limit_of(starts: &[u32], n: usize, end: usize, key: u32) -> usize
     ensures { (e : List ℕ) → Limit starts.now n e end key result }
 {
-    let mut next = place_after(key, starts.len());
-    if next < n {
-        next = n;
+    let next = place_after(key, starts.len()).max(n);
+    match starts.get(next) {
+        Some(start) => wide(*start).min(end),
+        None => end,
     }
-    if starts.len() <= next {
-        return end;
-    }
-    let most = wide(starts[next]);
-    if end < most {
-        return end;
-    }
-    most
 }
 
-// How many of the first entries, up to an end, are below a key: counted down from how many can be.
-fn seat_of(starts: &[u32], n: usize, entries: &[u32], end: usize, key: u32) -> usize
-    requires { end ≤ length entries.now }
-    ensures { Seat starts.now n entries.now end key result }
+// How many of the entries are below a key: counted down from how many can be.
+fn seat_of(starts: &[u32], n: usize, entries: &[u32], key: u32) -> usize
+    ensures { Seat starts.now n entries.now (length entries.now) key result }
 {
-    let mut i = limit_of(starts, n, end, key);
-    while !ends_below(entries, wide(key), i) {
-        i -= 1;
+    for i in (0..limit_of(starts, n, entries.len(), key)).rev() {
+        if entries[i] < key {
+            return i + 1;
+        }
     }
-    i
+    0
 }
 
 // Merges the first n numbers of the starts, which are keys, into the first u entries, in place.
@@ -56,12 +47,10 @@ pub fn merge_keys(starts: &[u32], n: usize, entries: &mut [u32], u: usize)
     ensures { Merged starts.now entries.old entries.new u (take n starts.now) }
 {
     let mut end = u;
-    let mut j = n;
-    while 0 < j {
-        let key = starts[j - 1];
-        let at = seat_of(starts, n, entries, end, key);
-        move_up(entries, at, end, j);
-        j -= 1;
+    for j in (0..n).rev() {
+        let key = starts[j];
+        let at = seat_of(starts, n, &entries[..end], key);
+        move_up(entries, at, end, j + 1);
         entries[at + j] = key;
         end = at;
     }

@@ -3,7 +3,7 @@ use Rattle.std.specs.Prelude.{ℕ, ◌<◌, ◌≡◌, refl, true, List, [], ◌
 use Rattle.std.proofs.Common.{sym}
 use Rattle.squares.specs.declared.shape.Shape.{Shape}
 use Rattle.squares.specs.declared.shape.Rect.{Rect}
-use Rattle.squares.specs.declared.shape.Shaped.{Shaped}
+use Rattle.std.specs.declared.result.Result.TheVariants.{Ok}
 use Rattle.squares.specs.Shape.{shape, allowed, fits}
 use Rattle.squares.specs.Made.{shaped}
 use Rattle.squares.specs.ShapeLaws.{shaped→}
@@ -13,10 +13,10 @@ use Rattle.cuts.specs.Cut.{cut}
 use Rattle.grid.specs.Promises.{makes, cut_gives}
 use Rattle.grid.specs.PromiseLaws.{cut-stops}
 
-pub made : (k P Q : ℕ) (s : Shape) → shaped k P Q ≡ Shaped.Allowed s → s ≡ shape k P Q
+pub made : (k P Q : ℕ) (s : Shape) → shaped k P Q ≡ Ok s → s ≡ shape k P Q
 made k P Q s h = sym (shaped→ k P Q refl h).0
 
-pub is_allowed : (k P Q : ℕ) (s : Shape) → shaped k P Q ≡ Shaped.Allowed s → allowed s ≡ true
+pub is_allowed : (k P Q : ℕ) (s : Shape) → shaped k P Q ≡ Ok s → allowed s ≡ true
 is_allowed k P Q s h = (shaped→ k P Q refl h).1
 
 pub no_room : (s : Shape) (r : Rect) (b : List ℕ) → allowed s ≡ true → fits s r ≡ true → length b < length (cut s r) → cut_gives s r b ≡ makes (b ∷ []) (refuse 11)

@@ -6,7 +6,8 @@ use Rattle.order.specs.Order.{Wrote}
 use Rattle.order.specs.BufferLaws.{wrote-over}
 use Rattle.squares.specs.declared.shape.Shape.{Shape}
 use Rattle.squares.specs.declared.shape.Rect.{Rect}
-use Rattle.grid.specs.declared.cut.CutOf.{CutOf}
+use Rattle.std.specs.declared.result.Result.TheVariants.{Ok, Err}
+use Rattle.squares.specs.declared.refusal.Refusal.{Refusal}
 use Rattle.squares.specs.Shape.{allowed, fits}
 use Rattle.squares.specs.Squares.{number, side_on, squares_on, corner_x, corner_y, is_number}
 use Rattle.cuts.specs.Cut.{cut}
@@ -43,10 +44,10 @@ module _ (s : Shape) (r : Rect) (b : List ℕ) where
 
 -- the cut counted, and then refused or written
 module _ (s : Shape) (r : Rect) (b : List ℕ) (count : ℕ) (ok : allowed s ≡ true) (fit : fits s r ≡ true) (h : Counted s r count) where
-  pub cut_short : length b < count → makes (b ∷ []) (cut_is (CutOf.Refused 11)) ≡ cut_gives s r b
+  pub cut_short : length b < count → makes (b ∷ []) (cut_is (Err Refusal.Buffer)) ≡ cut_gives s r b
   cut_short g = cut-stops s r b 2 (ok, (fit, short h.is g))
 
-  pub cut-listed : (b' : List ℕ) (n : ℕ) → count ≤ length b → Wrote b b' 0 n (cut s r) → makes (b' ∷ []) (cut_is (CutOf.Listed n)) ≡ cut_gives s r b
+  pub cut-listed : (b' : List ℕ) (n : ℕ) → count ≤ length b → Wrote b b' 0 n (cut s r) → makes (b' ∷ []) (cut_is (Ok n)) ≡ cut_gives s r b
   cut-listed b' n g w =
       let all : n ≡ length (cut s r) = w.next ∙ zero-add (length (cut s r)) in
       rw (wrote-over w (rw (← h.is) g), all) (cut-stops s r b 3 (ok, (fit, (enough h.is g, tt))))

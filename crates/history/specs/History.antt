@@ -1,8 +1,9 @@
 -- Any sequence of calls, each with what its promise allows; and what such a history says, from the calls and answers alone.
 use Rattle.std.specs.Prelude.{Bool, true, ◌&&◌, List, [], ◌∷◌, eqb}
+use Rattle.std.specs.declared.result.Result.TheVariants.{Ok}
 use Rattle.squares.specs.Squares.{squares}
-use Rattle.model.specs.declared.answers.Opened.{Opened}
-use Rattle.model.specs.Model.{Opening, Town, nowhere, Event, change, after, Lengths}
+use Rattle.model.specs.Model.{Town, nowhere, Event, change, after, Lengths}
+use Rattle.model.specs.declared.opening.Opening.{Opening}
 use Rattle.tables.specs.Tables.{Tables, tables}
 use Rattle.tables.specs.Lent.{both}
 use Rattle.tables.specs.Steps.{step}
@@ -11,7 +12,7 @@ use Rattle.promises.specs.Events.{opened}
 
 -- from an accepted open on, the newest call first, with the tables then
 pub data History : List Event → Tables → Type 0 where
-  begins : {o : Opening} {t t' : Tables} → Keeps (both t t') (opened o Opened.Done) → History (opened o Opened.Done ∷ []) t'
+  begins : {o : Opening} {t t' : Tables} → Keeps (both t t') (opened o (Ok (tt {0}))) → History (opened o (Ok (tt {0})) ∷ []) t'
   goes : {es : List Event} {t t' : Tables} (e : Event) → History es t → Keeps (both t t') e → History (e ∷ es) t'
 
 -- the town that it says: the last accepted open, the zones that stand, each car's last accepted report

@@ -4,17 +4,18 @@ use Rattle.std.proofs.Math.Path.{refl, fun_ext, sym}
 use Rattle.std.proofs.Common.{ap, ap₂, subst, ◌∙◌, arith}
 use Rattle.std.specs.Int.Signed.{non_neg}
 use borrow.Author.Tests.{le-leb, ltb-true, not-true, eq-eqb, eqb-true}
+use Rattle.std.specs.declared.result.Result.TheVariants.{Ok}
 use Rattle.order.specs.TestLaws.{and→, both_ways}
 use Rattle.squares.specs.Ride.{ridden, lands}
 use Rattle.squares.specs.Squares.{squares}
 use Rattle.squares.specs.ShapeLaws.{allowed→, fits→}
 use Rattle.squares.specs.Refusals.{first, result}
 use Rattle.squares.specs.RefusalLaws.{clear}
-use Rattle.model.specs.declared.answers.Opened.{Opened}
 use Rattle.model.specs.Answers.{numbers}
 use Rattle.model.specs.Teams.{last_team}
 use Rattle.model.specs.TeamLaws.{teamed-few}
-use Rattle.model.specs.Model.{Opening, Car, Town, known, Call, opening, adding, removing, riding, reporting, leaving, searching, ask_scoring, ask_roster, ask_count, ask_holder, ask_where, ask_soundness, Event, Change, emptied, nothing, change_of, change_by, change, after, Lengths, meaning}
+use Rattle.model.specs.Model.{Car, Town, known, Call, opening, adding, removing, riding, reporting, leaving, searching, ask_scoring, ask_roster, ask_count, ask_holder, ask_where, ask_soundness, Event, Change, emptied, nothing, change_of, change_by, change, after, Lengths, meaning}
+use Rattle.model.specs.declared.opening.Opening.{Opening}
 use Rattle.tables.specs.Tables.{Tables, tally, shape_of, zone_room, car_room, entry_room, rect_of, stands, zone_in, car_in, town_of, opening_in}
 use Rattle.tables.specs.Check.{long}
 use Rattle.tables.specs.Sizes.{Long}
@@ -101,10 +102,10 @@ module _ (t : Tables) (sound : Sound t) where
       subst (λ (u : Tables). Next (change e) t u) (sym a.1) (subst (λ (x : Event). Next (change x) t (step (change x) t)) (sym a.0) (next-outcome e.call (refuser t e.call) refl))
 
 -- an open on any tables, where its answer is no refusal
-begins-next : {o : Opening} {t t' : Tables} → Keeps (both t t') (opened o Opened.Done) → Next (emptied o) t t'
+begins-next : {o : Opening} {t t' : Tables} → Keeps (both t t') (opened o (Ok (tt {0}))) → Next (emptied o) t t'
 unfolding meaning
 begins-next {o} {t} {t'} k =
-    let none = keeps-clear (opened o Opened.Done) (numbers []) k refl in
+    let none = keeps-clear (opened o (Ok (tt {0}))) (numbers []) k refl in
     subst (λ (u : Tables). Next (emptied o) t u) (sym (k.does none true tt).1) (next-empty t o none)
 
 -- ---- any history

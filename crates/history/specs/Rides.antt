@@ -4,7 +4,10 @@ use Rattle.std.proofs.Math.Path.{refl, ap}
 use Rattle.std.proofs.Common.{sym, subst, ◌∙◌, arith}
 use Rattle.std.proofs.Math.ListN.{get_or}
 use borrow.Author.Tests.{ltb-true}
+use Rattle.std.specs.declared.result.Result.{Result as Told}
+use Rattle.std.specs.declared.result.Result.TheVariants.{Ok}
 use Rattle.order.specs.Order.{over}
+use Rattle.squares.specs.declared.refusal.Refusal.{Refusal}
 use Rattle.squares.specs.Ride.{ridden}
 use Rattle.squares.specs.Refusals.{accept, Result}
 use Rattle.squares.specs.RefusalLaws.{clear}
@@ -28,13 +31,13 @@ use Rattle.history.specs.Sentences.{sound-after, town-after, accepted-true}
 module _ {es : List Event} {t : Tables} (h : History es t) where
   -- a ride drops the squares of the old cut that are not in the new one and takes up those of the new one that are not in the old; the
   -- cars that it writes are inside after it and not before, and inside before and not after
-  pub ride-true : {t' : Tables} {z : ℕ} {dx dy : ℤ} {e e' l l' : List ℕ} {answer : Ridden} → Keeps (both t t') (event (riding z dx dy e l) (e' ∷ l' ∷ []) (ridden_is answer)) → refusal (lengths_said es) (said es) (riding z dx dy e l) ≡ 0 → let m = said es in let m' = after (zone_moved z dx dy) m in (answer ≡ Ridden.Done (length (squares_more m m' z)) (length (squares_more m' m z)) (length (cars_more m' m z)) (length (cars_more m m' z))) × (e' ≡ over (cars_more m' m z) e) × (l' ≡ over (cars_more m m' z) l)
+  pub ride-true : {t' : Tables} {z : ℕ} {dx dy : ℤ} {e e' l l' : List ℕ} {answer : Told Ridden Refusal} → Keeps (both t t') (event (riding z dx dy e l) (e' ∷ l' ∷ []) (ridden_is answer)) → refusal (lengths_said es) (said es) (riding z dx dy e l) ≡ 0 → let m = said es in let m' = after (zone_moved z dx dy) m in (answer ≡ Ok (record { dropped = length (squares_more m m' z); taken = length (squares_more m' m z); entered = length (cars_more m' m z); left = length (cars_more m m' z) })) × (e' ≡ over (cars_more m' m z) e) × (l' ≡ over (cars_more m m' z) l)
   unfolding meaning
   ride-true {t'} {z} {dx} {dy} {e} {e'} {l} {l'} {answer} k q =
       let m = said es in
       let m' = after (zone_moved z dx dy) m in
       let a = accepted-true h (event (riding z dx dy e l) (e' ∷ l' ∷ []) (ridden_is answer)) t' k q in
-      (ridden-same answer (Ridden.Done (length (squares_more m m' z)) (length (squares_more m' m z)) (length (cars_more m' m z)) (length (cars_more m m' z))) (ap (λ (r : Result Values). r.answer) a), ap (λ (r : Result Values). get_or r.buffers 0 []) a, ap (λ (r : Result Values). get_or r.buffers 1 []) a)
+      (ridden-same answer (Ok (record { dropped = length (squares_more m m' z); taken = length (squares_more m' m z); entered = length (cars_more m' m z); left = length (cars_more m m' z) })) (ap (λ (r : Result Values). r.answer) a), ap (λ (r : Result Values). get_or r.buffers 0 []) a, ap (λ (r : Result Values). get_or r.buffers 1 []) a)
 
   module _ {t' : Tables} {z : ℕ} {dx dy : ℤ} {buffers : List (List ℕ)} {e l : List ℕ} {v : Values} (k : Keeps (both t t') (event (riding z dx dy e l) buffers (accept v))) where
     none : bars t (riding z dx dy e l) ≡ 0
@@ -66,12 +69,12 @@ module _ {es : List Event} {t : Tables} (h : History es t) where
         ∙ sym two.is
 
   -- a ride of nothing changes no byte, writes nothing and answers 0 four times
-  pub ride-nothing : {t' : Tables} {z : ℕ} {e e' l l' : List ℕ} {answer : Ridden} → Keeps (both t t') (event (riding z (pos 0) (pos 0) e l) (e' ∷ l' ∷ []) (ridden_is answer)) → refusal (lengths_said es) (said es) (riding z (pos 0) (pos 0) e l) ≡ 0 → (answer ≡ Ridden.Done 0 0 0 0) × (e' ≡ e) × (l' ≡ l) × (t' ≡ t)
+  pub ride-nothing : {t' : Tables} {z : ℕ} {e e' l l' : List ℕ} {answer : Told Ridden Refusal} → Keeps (both t t') (event (riding z (pos 0) (pos 0) e l) (e' ∷ l' ∷ []) (ridden_is answer)) → refusal (lengths_said es) (said es) (riding z (pos 0) (pos 0) e l) ≡ 0 → (answer ≡ Ok (record { dropped = 0; taken = 0; entered = 0; left = 0 })) × (e' ≡ e) × (l' ≡ l) × (t' ≡ t)
   ride-nothing {t'} {z} {e} {e'} {l} {l'} {answer} k q =
       let m = said es in
       let m' = after (zone_moved z (pos 0) (pos 0)) m in
       let told = ride-true k q in
-      let done = subst (λ (a : Ridden). Keeps (both t t') (event (riding z (pos 0) (pos 0) e l) (e' ∷ l' ∷ []) (ridden_is a))) told.0 k in
+      let done = subst (λ (a : Told Ridden Refusal). Keeps (both t t') (event (riding z (pos 0) (pos 0) e l) (e' ∷ l' ∷ []) (ridden_is a))) told.0 k in
       let same : t' ≡ t = is done ∙ ride-still t (sound-after h) z (there done) in
       let town : m' ≡ m = ap (after (zone_moved z (pos 0) (pos 0))) (sym (town-after h)) ∙ sym (moved done) ∙ ap town_of same ∙ town-after h in
-      (told.0 ∙ ap (λ (n : Town). Ridden.Done (length (squares_more m n z)) (length (squares_more n m z)) (length (cars_more n m z)) (length (cars_more m n z))) town ∙ rw (no-squares m z, none_more m z), told.1 ∙ ap (λ (n : Town). over (cars_more n m z) e) town ∙ ap (λ (cars : List ℕ). over cars e) (none_more m z), told.2 ∙ ap (λ (n : Town). over (cars_more m n z) l) town ∙ ap (λ (cars : List ℕ). over cars l) (none_more m z), same)
+      (told.0 ∙ ap (λ (n : Town). Ok (record { dropped = length (squares_more m n z); taken = length (squares_more n m z); entered = length (cars_more n m z); left = length (cars_more m n z) })) town ∙ rw (no-squares m z, none_more m z), told.1 ∙ ap (λ (n : Town). over (cars_more n m z) e) town ∙ ap (λ (cars : List ℕ). over cars e) (none_more m z), told.2 ∙ ap (λ (n : Town). over (cars_more m n z) l) town ∙ ap (λ (cars : List ℕ). over cars l) (none_more m z), same)

@@ -1,5 +1,5 @@
 -- Any sequence of calls, sentence by sentence: what holds after every history, and that histories go on with every call.
-use Rattle.std.specs.Prelude.{ℕ, suc, ◌+◌, ◌*◌, ◌<◌, ◌≤◌, ◌≡◌, false, leb, ltb, length}
+use Rattle.std.specs.Prelude.{Bool, ℕ, suc, ◌+◌, ◌*◌, ◌<◌, ◌≤◌, ◌≡◌, false, leb, ltb, length}
 use Rattle.std.proofs.Math.Path.{refl, ap, sym}
 use Rattle.std.proofs.Common.{ap₂, subst, ◌∙◌, arith}
 use Rattle.std.proofs.Math.Logic.{⊎_elim}
@@ -8,32 +8,30 @@ use mathlib.Core.List.{List, [], ◌∷◌}
 use Rattle.std.proofs.Math.Option.{some}
 use Rattle.std.proofs.Math.ListN.{get_or, get_or-eq_default}
 use borrow.Author.Tests.{le-leb, lt-ltb, leb-true, ltb-true, ne_eqb}
+use Rattle.std.specs.declared.result.Result.{Result as Told}
+use Rattle.std.specs.declared.result.Result.TheVariants.{Ok}
 use Rattle.order.specs.Order.{over}
 use Rattle.order.specs.Sums.{sum, bit}
 use Rattle.order.specs.TestLaws.{lt-or-le, true-not-false}
 use Rattle.order.specs.SumLaws.{sum-ext, count-one}
+use Rattle.squares.specs.declared.refusal.Refusal.{Refusal}
 use Rattle.squares.specs.declared.shape.Rect.{Rect}
 use Rattle.squares.specs.Bounds.{Allowed}
 use Rattle.cuts.specs.Cut.{cut}
 use Rattle.squares.specs.Refusals.{first, Answer, refuse, accept, Result, giving, result}
 use Rattle.squares.specs.RefusalLaws.{clear}
 use Rattle.position.specs.declared.Position.{Position}
-use Rattle.model.specs.declared.answers.Opened.{Opened}
 use Rattle.model.specs.declared.answers.Added.{Added}
-use Rattle.model.specs.declared.answers.Reported.{Reported}
-use Rattle.model.specs.declared.answers.Left.{Left}
-use Rattle.model.specs.declared.answers.Searched.{Searched}
-use Rattle.model.specs.declared.answers.ScoringOf.{ScoringOf}
-use Rattle.model.specs.declared.answers.RosterOf.{RosterOf}
-use Rattle.model.specs.declared.answers.CountOf.{CountOf}
-use Rattle.model.specs.declared.answers.HolderOf.{HolderOf}
-use Rattle.model.specs.declared.answers.WhereIs.{WhereIs}
-use Rattle.model.specs.declared.answers.SoundnessOf.{SoundnessOf}
-use Rattle.model.specs.Answers.{Values, numbers, spot, added_is, reported_is, left_is, searched_is, scoring_is, roster_is, count_is, holder_is, where_is, soundness_is}
+use Rattle.model.specs.declared.answers.Crossed.{Crossed}
+use Rattle.model.specs.declared.answers.Looked.{Looked}
+use Rattle.model.specs.declared.answers.Scoring.{Scoring}
+use Rattle.model.specs.declared.answers.Standing.{Standing}
+use Rattle.model.specs.Answers.{Values, numbers, spot, added_is, reported_is, left_is, searched_is, scoring_is, count_is, holder_is, where_is, soundness_is}
 use Rattle.model.specs.AnswerLaws.{added-same, reported-same, left-same, searched-same, roster-same, count_same, where-same, soundness-same}
 use Rattle.model.specs.Teams.{last_team}
 use Rattle.model.specs.TeamLaws.{squads-sum, teamed-own}
-use Rattle.model.specs.Model.{Opening, Car, Town, there, known, holds_spot, holds_car, roster, squad, holder, standing, zones_at, zones_of, zones_entered, zones_left, looked, zones_on, filled, levels, Call, opening, adding, reporting, leaving, searching, ask_scoring, ask_roster, ask_count, ask_holder, ask_where, ask_soundness, Event, zone_on, car_at, change, after, Lengths, meaning, refusal, refused, outcome}
+use Rattle.model.specs.Model.{Car, Town, there, known, holds_spot, holds_car, roster, squad, holder, standing, zones_at, zones_of, zones_entered, zones_left, looked, zones_on, filled, levels, Call, opening, adding, reporting, leaving, searching, ask_scoring, ask_roster, ask_count, ask_holder, ask_where, ask_soundness, Event, zone_on, car_at, change, after, Lengths, meaning, refusal, refused, outcome}
+use Rattle.model.specs.declared.opening.Opening.{Opening}
 use Rattle.model.specs.ScoringLaws.{Ends, climb-ends, climb-all, scores-somewhere}
 use Rattle.model.specs.RosterLaws.{report-other, report-own, report-same, report-roster}
 use Rattle.tables.specs.Tables.{Tables, tally, zone_room, car_room, stands, placed, car_in, town_of, roster_has}
@@ -105,31 +103,31 @@ module _ {es : List Event} {t : Tables} (h : History es t) where
   -- ---- call by call, where the history does not refuse it
 
   -- a roster is the cars whose last accepted report lies in the zone, each once, lowest first
-  pub roster-true : {z : ℕ} {b b' : List ℕ} {answer : RosterOf} → Keeps (both t t) (event (ask_roster z b) (b' ∷ []) (roster_is answer)) → refusal (lengths_said es) (said es) (ask_roster z b) ≡ 0 → (answer ≡ RosterOf.Cars (length (roster (said es) z))) × (b' ≡ over (roster (said es) z) b)
+  pub roster-true : {z : ℕ} {b b' : List ℕ} {answer : Told ℕ Refusal} → Keeps (both t t) (event (ask_roster z b) (b' ∷ []) (count_is answer)) → refusal (lengths_said es) (said es) (ask_roster z b) ≡ 0 → (answer ≡ Ok (length (roster (said es) z))) × (b' ≡ over (roster (said es) z) b)
   unfolding meaning
   roster-true {z} {b} {b'} {answer} k q =
-      let a = accepted-true (event (ask_roster z b) (b' ∷ []) (roster_is answer)) t k q in
-      (roster-same answer (RosterOf.Cars (length (roster (said es) z))) (ap (λ (r : Result Values). r.answer) a), ap (buffer 0) a)
+      let a = accepted-true (event (ask_roster z b) (b' ∷ []) (count_is answer)) t k q in
+      (roster-same answer (Ok (length (roster (said es) z))) (ap (λ (r : Result Values). r.answer) a), ap (buffer 0) a)
 
   -- a count is how many cars' last accepted reports lie in the zone
-  pub count-true : {z : ℕ} {answer : CountOf} → Keeps (both t t) (event (ask_count z) [] (count_is answer)) → refusal (lengths_said es) (said es) (ask_count z) ≡ 0 → answer ≡ CountOf.Cars (length (roster (said es) z))
+  pub count-true : {z : ℕ} {answer : Told ℕ Refusal} → Keeps (both t t) (event (ask_count z) [] (count_is answer)) → refusal (lengths_said es) (said es) (ask_count z) ≡ 0 → answer ≡ Ok (length (roster (said es) z))
   unfolding meaning
-  count-true {z} {answer} k q = count_same answer (CountOf.Cars (length (roster (said es) z))) (ap (λ (r : Result Values). r.answer) (accepted-true (event (ask_count z) [] (count_is answer)) t k q))
+  count-true {z} {answer} k q = count_same answer (Ok (length (roster (said es) z))) (ap (λ (r : Result Values). r.answer) (accepted-true (event (ask_count z) [] (count_is answer)) t k q))
 
   -- the holder call tells how many of them drive for each team, and the team that has strictly more of them than each other
-  pub holder-true : {z : ℕ} (answer : HolderOf) → Keeps (both t t) (event (ask_holder z) [] (holder_is answer)) → refusal (lengths_said es) (said es) (ask_holder z) ≡ 0 → holder_is answer ≡ accept (numbers (standing (said es) z))
+  pub holder-true : {z : ℕ} (answer : Told Standing Refusal) → Keeps (both t t) (event (ask_holder z) [] (holder_is answer)) → refusal (lengths_said es) (said es) (ask_holder z) ≡ 0 → holder_is answer ≡ accept (numbers (standing (said es) z))
   unfolding meaning
   holder-true {z} answer k q = ap (λ (r : Result Values). r.answer) (accepted-true (event (ask_holder z) [] (holder_is answer)) t k q)
 
   -- a search finds the zones that stand and hold the point
-  pub search-true : {p : Position} {b b' : List ℕ} {answer : Searched} → Keeps (both t t) (event (searching p b) (b' ∷ []) (searched_is answer)) → refusal (lengths_said es) (said es) (searching p b) ≡ 0 → (answer ≡ Searched.Found ((said es).opening.shape.k + 1) (length (zones_at (said es) p))) × (b' ≡ over (zones_at (said es) p) b)
+  pub search-true : {p : Position} {b b' : List ℕ} {answer : Told Looked Refusal} → Keeps (both t t) (event (searching p b) (b' ∷ []) (searched_is answer)) → refusal (lengths_said es) (said es) (searching p b) ≡ 0 → (answer ≡ Ok (record { squares = (said es).opening.shape.k + 1; zones = length (zones_at (said es) p) })) × (b' ≡ over (zones_at (said es) p) b)
   unfolding meaning
   search-true {p} {b} {b'} {answer} k q =
       let a = accepted-true (event (searching p b) (b' ∷ []) (searched_is answer)) t k q in
-      (searched-same answer (Searched.Found ((said es).opening.shape.k + 1) (length (zones_at (said es) p))) (ap (λ (r : Result Values). r.answer) a), ap (buffer 0) a)
+      (searched-same answer (Ok (record { squares = (said es).opening.shape.k + 1; zones = length (zones_at (said es) p) })) (ap (λ (r : Result Values). r.answer) a), ap (buffer 0) a)
 
   -- a scoring says yes exactly where one of them is found, and how many levels are looked at
-  pub scoring-true : {p : Position} (answer : ScoringOf) → Keeps (both t t) (event (ask_scoring p) [] (scoring_is answer)) → refusal (lengths_said es) (said es) (ask_scoring p) ≡ 0 → scoring_is answer ≡ accept (numbers (bit (filled (zones_at (said es) p)) ∷ levels (said es) p ∷ []))
+  pub scoring-true : {p : Position} (answer : Told Scoring Refusal) → Keeps (both t t) (event (ask_scoring p) [] (scoring_is answer)) → refusal (lengths_said es) (said es) (ask_scoring p) ≡ 0 → scoring_is answer ≡ accept (numbers (bit (filled (zones_at (said es) p)) ∷ levels (said es) p ∷ []))
   unfolding meaning
   scoring-true {p} answer k q = ap (λ (r : Result Values). r.answer) (accepted-true (event (ask_scoring p) [] (scoring_is answer)) t k q)
 
@@ -144,30 +142,30 @@ module _ {es : List Event} {t : Tables} (h : History es t) where
   levels-all p e = climb-all (λ (i : ℕ). filled (zones_on (said es) p i)) (said es).opening.shape.k (sym (scores-somewhere (said es) p shape-allowed) ∙ e)
 
   -- a report's square count, zones entered and zones left are what its old and new cells give
-  pub report-true : {t' : Tables} {c g : ℕ} {p : Position} {e e' l l' : List ℕ} {answer : Reported} → Keeps (both t t') (event (reporting c g p e l) (e' ∷ l' ∷ []) (reported_is answer)) → refusal (lengths_said es) (said es) (reporting c g p e l) ≡ 0 → (answer ≡ Reported.Done (looked (said es).opening.shape ((said es).car c) p) (length (zones_entered (said es) c p)) (length (zones_left (said es) c p))) × (e' ≡ over (zones_entered (said es) c p) e) × (l' ≡ over (zones_left (said es) c p) l)
+  pub report-true : {t' : Tables} {c g : ℕ} {p : Position} {e e' l l' : List ℕ} {answer : Told Crossed Refusal} → Keeps (both t t') (event (reporting c g p e l) (e' ∷ l' ∷ []) (reported_is answer)) → refusal (lengths_said es) (said es) (reporting c g p e l) ≡ 0 → (answer ≡ Ok (record { squares = looked (said es).opening.shape ((said es).car c) p; entered = length (zones_entered (said es) c p); left = length (zones_left (said es) c p) })) × (e' ≡ over (zones_entered (said es) c p) e) × (l' ≡ over (zones_left (said es) c p) l)
   unfolding meaning
   report-true {t'} {c} {g} {p} {e} {e'} {l} {l'} {answer} k q =
       let a = accepted-true (event (reporting c g p e l) (e' ∷ l' ∷ []) (reported_is answer)) t' k q in
-      (reported-same answer (Reported.Done (looked (said es).opening.shape ((said es).car c) p) (length (zones_entered (said es) c p)) (length (zones_left (said es) c p))) (ap (λ (r : Result Values). r.answer) a), ap (buffer 0) a, ap (buffer 1) a)
+      (reported-same answer (Ok (record { squares = looked (said es).opening.shape ((said es).car c) p; entered = length (zones_entered (said es) c p); left = length (zones_left (said es) c p) })) (ap (λ (r : Result Values). r.answer) a), ap (buffer 0) a, ap (buffer 1) a)
 
   -- a car that leaves, leaves the zones in which its last accepted report lies
-  pub leave-true : {t' : Tables} {c : ℕ} {b b' : List ℕ} {answer : Left} → Keeps (both t t') (event (leaving c b) (b' ∷ []) (left_is answer)) → refusal (lengths_said es) (said es) (leaving c b) ≡ 0 → (answer ≡ Left.Done ((said es).opening.shape.k + 1) (length (zones_of (said es) c))) × (b' ≡ over (zones_of (said es) c) b)
+  pub leave-true : {t' : Tables} {c : ℕ} {b b' : List ℕ} {answer : Told Looked Refusal} → Keeps (both t t') (event (leaving c b) (b' ∷ []) (left_is answer)) → refusal (lengths_said es) (said es) (leaving c b) ≡ 0 → (answer ≡ Ok (record { squares = (said es).opening.shape.k + 1; zones = length (zones_of (said es) c) })) × (b' ≡ over (zones_of (said es) c) b)
   unfolding meaning
   leave-true {t'} {c} {b} {b'} {answer} k q =
       let a = accepted-true (event (leaving c b) (b' ∷ []) (left_is answer)) t' k q in
-      (left-same answer (Left.Done ((said es).opening.shape.k + 1) (length (zones_of (said es) c))) (ap (λ (r : Result Values). r.answer) a), ap (buffer 0) a)
+      (left-same answer (Ok (record { squares = (said es).opening.shape.k + 1; zones = length (zones_of (said es) c) })) (ap (λ (r : Result Values). r.answer) a), ap (buffer 0) a)
 
   -- a new zone has the squares of its cut and the cars whose last accepted report lies in it
-  pub add-true : {t' : Tables} {z : ℕ} {r : Rect} {answer : Added} → Keeps (both t t') (event (adding z r) [] (added_is answer)) → refusal (lengths_said es) (said es) (adding z r) ≡ 0 → answer ≡ Added.Done (length (cut (said es).opening.shape r)) (length (roster (after (zone_on z r) (said es)) z))
+  pub add-true : {t' : Tables} {z : ℕ} {r : Rect} {answer : Told Added Refusal} → Keeps (both t t') (event (adding z r) [] (added_is answer)) → refusal (lengths_said es) (said es) (adding z r) ≡ 0 → answer ≡ Ok (record { squares = length (cut (said es).opening.shape r); cars = length (roster (after (zone_on z r) (said es)) z) })
   unfolding meaning
   add-true {t'} {z} {r} {answer} k q =
       let a = accepted-true (event (adding z r) [] (added_is answer)) t' k q in
-      added-same answer (Added.Done (length (cut (said es).opening.shape r)) (length (roster (after (zone_on z r) (said es)) z))) (ap (λ (r : Result Values). r.answer) a)
+      added-same answer (Ok (record { squares = length (cut (said es).opening.shape r); cars = length (roster (after (zone_on z r) (said es)) z) })) (ap (λ (r : Result Values). r.answer) a)
 
   -- soundness says yes
-  pub soundness-true : {answer : SoundnessOf} → Keeps (both t t) (event ask_soundness [] (soundness_is answer)) → answer ≡ SoundnessOf.Sound
+  pub soundness-true : {answer : Told Bool Refusal} → Keeps (both t t) (event ask_soundness [] (soundness_is answer)) → answer ≡ Ok true
   unfolding meaning first
-  soundness-true {answer} k = soundness-same answer SoundnessOf.Sound (ap (λ (r : Result Values). r.answer) (accepted-true (event ask_soundness [] (soundness_is answer)) t k refl))
+  soundness-true {answer} k = soundness-same answer (Ok true) (ap (λ (r : Result Values). r.answer) (accepted-true (event ask_soundness [] (soundness_is answer)) t k refl))
 
   -- ---- which rosters an accepted report changes
 
@@ -263,11 +261,11 @@ module _ {es : List Event} {t : Tables} (h : History es t) where
       omega (arith, stands-below t z (size_of sound-after) on)
 
   -- where gives the last accepted bits
-  pub where-true : {c : ℕ} {a : Car} {answer : WhereIs} → Keeps (both t t) (event (ask_where c) [] (where_is answer)) → (said es).car c ≡ some a → answer ≡ WhereIs.At a.position
+  pub where-true : {c : ℕ} {a : Car} {answer : Told Position Refusal} → Keeps (both t t) (event (ask_where c) [] (where_is answer)) → (said es).car c ≡ some a → answer ≡ Ok a.position
   unfolding meaning first
   where-true {c} {a} {answer} k e =
       let done = accepted-true (event (ask_where c) [] (where_is answer)) t k (rw (lt-ltb c (said es).opening.cars (car-there e), e)) in
-      where-same answer (WhereIs.At a.position) (rw e at (ap (λ (r : Result Values). r.answer) done))
+      where-same answer (Ok a.position) (rw e at (ap (λ (r : Result Values). r.answer) done))
 
   -- the roster of a zone that stands is written wherever the buffer has room
   pub roster-accepted : (z : ℕ) {r : Rect} (b : List ℕ) → (said es).zone z ≡ some r → (said es).opening.cars ≤ length b → refusal (lengths_said es) (said es) (ask_roster z b) ≡ 0
@@ -286,10 +284,10 @@ module _ {es : List Event} {t : Tables} (h : History es t) where
 -- ---- on sound tables, however they came about
 
 -- a scoring says yes exactly when a search of the same position writes a zone
-pub scoring-search : {t t' t'' : Tables} → Sound t → {p : Position} {b : List ℕ} {buffers : List (List ℕ)} {squares zones : ℕ} → Keeps (both t t') (event (searching p b) buffers (searched_is (Searched.Found squares zones))) → (answer : ScoringOf) → Keeps (both t t'') (event (ask_scoring p) [] (scoring_is answer)) → scoring_is answer ≡ accept (numbers (bit (ltb 0 zones) ∷ levels (town_of t) p ∷ []))
+pub scoring-search : {t t' t'' : Tables} → Sound t → {p : Position} {b : List ℕ} {buffers : List (List ℕ)} {squares zones : ℕ} → Keeps (both t t') (event (searching p b) buffers (searched_is (Ok (record { squares = squares; zones = zones })))) → (answer : Told Scoring Refusal) → Keeps (both t t'') (event (ask_scoring p) [] (scoring_is answer)) → scoring_is answer ≡ accept (numbers (bit (ltb 0 zones) ∷ levels (town_of t) p ∷ []))
 unfolding meaning first
 scoring-search {t} sound {p} {b} {buffers} {squares} {zones} found answer told =
-    let none = keeps-clear (event (searching p b) buffers (searched_is (Searched.Found squares zones))) (numbers (squares ∷ zones ∷ [])) found refl in
+    let none = keeps-clear (event (searching p b) buffers (searched_is (Ok (record { squares = squares; zones = zones })))) (numbers (squares ∷ zones ∷ [])) found refl in
     let h = clear (means t (searching p b)).checks refl none in
     let clear-too : bars t (ask_scoring p) ≡ 0 = rw (h.0, h.1.0) in
     let many : zones ≡ length (zones_at (town_of t) p) = ap (λ (x : Event). zones_told x.result.answer) (found.does none true sound).0 ∙ ap (λ (i : ℕ). zones_told (answered (searching p b) i)) none in
@@ -306,7 +304,7 @@ scoring-search {t} sound {p} {b} {buffers} {squares} {zones} found answer told =
 -- ---- histories
 
 -- an open that nothing bars begins one, whatever the tables held
-pub history-begins : (o : Opening) (t : Tables) → bars t (opening o) ≡ 0 → History (opened o Opened.Done ∷ []) (empty_town o)
+pub history-begins : (o : Opening) (t : Tables) → bars t (opening o) ≡ 0 → History (opened o (Ok (tt {0})) ∷ []) (empty_town o)
 unfolding meaning first
 history-begins o t none = begins {t = t} (keeps-done t (opening o) _ (empty_town o) (numbers []) none refl (λ any trust. (refl, (refl, refl))))
 

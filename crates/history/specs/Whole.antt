@@ -2,8 +2,10 @@
 use Rattle.std.specs.Prelude.{◌≡◌, refl, true, List, [], ◌∷◌, replicate}
 use Rattle.std.proofs.Common.{sym}
 use Rattle.std.specs.Float.Ieee.{of_bits, to_bits, is_nan}
+use Rattle.std.specs.declared.result.Result.TheVariants.{Ok, Err}
 use Rattle.order.specs.Order.{span, keep}
 use Rattle.order.specs.Sums.{sum}
+use Rattle.squares.specs.declared.refusal.Refusal.{Refusal}
 use Rattle.squares.specs.Squares.{number, corner_x, corner_y, interleave, evens}
 use Rattle.cuts.specs.Cut.{cut_to, in_cut, inside}
 use Rattle.squares.specs.ShapeLaws.{allowed→}
@@ -11,12 +13,7 @@ use Rattle.squares.specs.Refusals.{first}
 use Rattle.squares.specs.RefusalLaws.{stops}
 use Rattle.position.specs.Cell.{whole, in_range, on_map, cell_of}
 use Rattle.position.specs.Answer.{on_town, column_of, row_of}
-use Rattle.model.specs.declared.answers.Opened.{Opened}
-use Rattle.model.specs.declared.answers.Added.{Added}
-use Rattle.model.specs.declared.answers.Reported.{Reported}
-use Rattle.model.specs.declared.answers.Left.{Left}
-use Rattle.model.specs.declared.answers.RosterOf.{RosterOf}
-use Rattle.model.specs.Answers.{opened_is, added_is, reported_is, left_is, roster_is}
+use Rattle.model.specs.Answers.{done_is, added_is, reported_is, left_is, count_is}
 use Rattle.model.specs.Model.{Call, opening, adding, reporting, leaving, ask_roster, Event, meaning, outcome}
 use Rattle.model.specs.Whole.{asked, rect, at, near, far, zones, cars}
 use Rattle.tables.specs.Tables.{Tables}
@@ -30,35 +27,35 @@ use Rattle.history.specs.Sentences.{history-begins, history-goes}
 
 -- M 2 4 4                  -> M 0
 unfoldable pub opens : List Event
-opens = event (opening asked) [] (opened_is Opened.Done) ∷ []
+opens = event (opening asked) [] (done_is (Ok (tt {0}))) ∷ []
 
 -- A 1 5 2 8 12             -> A 0 36 0
 unfoldable pub adds : List Event
-adds = event (adding 1 (rect 5 2 8 12)) [] (added_is (Added.Done 36 0)) ∷ opens
+adds = event (adding 1 (rect 5 2 8 12)) [] (added_is (Ok (record { squares = 36; cars = 0 }))) ∷ opens
 
 -- P 7 40B00000 40400000    -> P 0 3 1 -
 unfoldable pub enters : List Event
-enters = event (reporting 7 0 near zones zones) ((1 ∷ replicate 15 0) ∷ zones ∷ []) (reported_is (Reported.Done 3 1 0)) ∷ adds
+enters = event (reporting 7 0 near zones zones) ((1 ∷ replicate 15 0) ∷ zones ∷ []) (reported_is (Ok (record { squares = 3; entered = 1; left = 0 }))) ∷ adds
 
 -- P 7 41200000 41300000    -> P 0 6 - -
 unfoldable pub moves : List Event
-moves = event (reporting 7 0 far zones zones) (zones ∷ zones ∷ []) (reported_is (Reported.Done 6 0 0)) ∷ enters
+moves = event (reporting 7 0 far zones zones) (zones ∷ zones ∷ []) (reported_is (Ok (record { squares = 6; entered = 0; left = 0 }))) ∷ enters
 
 -- R 1                      -> R 0 1 7
 unfoldable pub lists : List Event
-lists = event (ask_roster 1 cars) ((7 ∷ replicate 63 0) ∷ []) (roster_is (RosterOf.Cars 1)) ∷ moves
+lists = event (ask_roster 1 cars) ((7 ∷ replicate 63 0) ∷ []) (count_is (Ok 1)) ∷ moves
 
 -- A 1 0 0 1 1              -> A 6
 unfoldable pub refuses : List Event
-refuses = event (adding 1 (rect 0 0 1 1)) [] (added_is (Added.Refused 6)) ∷ lists
+refuses = event (adding 1 (rect 0 0 1 1)) [] (added_is (Err Refusal.ZoneStands)) ∷ lists
 
 -- L 7                      -> L 0 3 1
 unfoldable pub leaves : List Event
-leaves = event (leaving 7 zones) ((1 ∷ replicate 15 0) ∷ []) (left_is (Left.Done 3 1)) ∷ refuses
+leaves = event (leaving 7 zones) ((1 ∷ replicate 15 0) ∷ []) (left_is (Ok (record { squares = 3; zones = 1 }))) ∷ refuses
 
 -- R 1                      -> R 0 0 -
 unfoldable pub ends : List Event
-ends = event (ask_roster 1 cars) (cars ∷ []) (roster_is (RosterOf.Cars 0)) ∷ leaves
+ends = event (ask_roster 1 cars) (cars ∷ []) (count_is (Ok 0)) ∷ leaves
 
 -- ---- the answers compute
 

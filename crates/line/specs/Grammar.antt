@@ -1,8 +1,5 @@
 -- What a line of the log means. A line is its bytes without the feed.
-use Rattle.std.specs.Prelude.{ℕ, ◌+◌, ◌-◌, ◌*◌, cond, not, ◌&&◌, List, [], ◌∷◌, ltb, leb, eqb, length, get_or}
-use Rattle.std.proofs.Math.Option.{Option, none, some}
-use Rattle.line.specs.declared.numbers.Number.{Number}
-use Rattle.line.specs.declared.numbers.Number.TheVariants.{Wrong, Value}
+use Rattle.std.specs.Prelude.{ℕ, ◌+◌, ◌-◌, ◌*◌, cond, not, ◌&&◌, List, [], ◌∷◌, ltb, leb, eqb, length, get_or, Option, Some, None}
 use Rattle.line.specs.declared.records.Record.{Record}
 use Rattle.line.specs.declared.records.Record.TheVariants.{Bad, Open, Add, Remove, Report, Leave, Search, Roster}
 use Rattle.line.specs.Split.{split}
@@ -14,26 +11,26 @@ unfoldable pub digit_of : ℕ → ℕ
 digit_of b = cond (leb 48 b && leb b 57) (b - 48) (cond (leb 65 b && leb b 70) (b - 55) 16)
 
 -- the number that digits write in a base, after those that wrote n
-unfoldable pub numeral : ℕ → ℕ → List ℕ → Number
-numeral base n [] = Value n
-numeral base n (b ∷ f) = cond (ltb (digit_of b) base) (numeral base (n * base + digit_of b) f) Wrong
+unfoldable pub numeral : ℕ → ℕ → List ℕ → Option ℕ
+numeral base n [] = Some n
+numeral base n (b ∷ f) = cond (ltb (digit_of b) base) (numeral base (n * base + digit_of b) f) None
 
-abbrev pub below : ℕ → Number → Number
-below m Wrong = Wrong
-below m (Value n) = cond (ltb n m) (Value n) Wrong
+abbrev pub below : ℕ → Option ℕ → Option ℕ
+below m None = None
+below m (Some n) = cond (ltb n m) (Some n) None
 
 -- 1 to 10 digits, no needless leading zero, below 2^32
-unfoldable pub decimal : List ℕ → Number
+unfoldable pub decimal : List ℕ → Option ℕ
 decimal f =
     let needless = ltb 1 (length f) && eqb (get_or f 0 0) 48 in
-    cond (leb 1 (length f) && (leb (length f) 10 && not needless)) (below 4294967296 (numeral 10 0 f)) Wrong
+    cond (leb 1 (length f) && (leb (length f) 10 && not needless)) (below 4294967296 (numeral 10 0 f)) None
 
 -- 8 hex digits, the float's bits
-unfoldable pub coordinate : List ℕ → Number
-coordinate f = cond (eqb (length f) 8) (numeral 16 0 f) Wrong
+unfoldable pub coordinate : List ℕ → Option ℕ
+coordinate f = cond (eqb (length f) 8) (numeral 16 0 f) None
 
 -- a field in base 10 is a decimal, one in base 16 a coordinate
-abbrev pub value : ℕ → List ℕ → Number
+abbrev pub value : ℕ → List ℕ → Option ℕ
 value base f = cond (eqb base 10) (decimal f) (coordinate f)
 
 -- ---- a line
@@ -64,21 +61,21 @@ record_of letter v =
     (cond (eqb letter 82) (Roster v₀) Bad))))))
 
 -- a value in front of others, where there is one
-abbrev pub with : Number → Option (List ℕ) → Option (List ℕ)
-with Wrong vs = none
-with (Value n) none = none
-with (Value n) (some vs) = some (n ∷ vs)
+abbrev pub with : Option ℕ → Option (List ℕ) → Option (List ℕ)
+with None vs = None
+with (Some n) None = None
+with (Some n) (Some vs) = Some (n ∷ vs)
 
 -- the values of fields, where there are as many as bases and each is right
 unfoldable pub values : List ℕ → List (List ℕ) → Option (List ℕ)
-values [] [] = some []
-values [] (f ∷ fs) = none
-values (b ∷ bs) [] = none
+values [] [] = Some []
+values [] (f ∷ fs) = None
+values (b ∷ bs) [] = None
 values (b ∷ bs) (f ∷ fs) = with (value b f) (values bs fs)
 
 abbrev pub recorded : ℕ → Option (List ℕ) → Record
-recorded letter none = Bad
-recorded letter (some v) = record_of letter v
+recorded letter None = Bad
+recorded letter (Some v) = record_of letter v
 
 -- the first field is one letter
 abbrev pub read : List (List ℕ) → Record

@@ -1,17 +1,14 @@
 -- Laws of the record that a line means.
 use Prim.Native.Nat.{ℕ, zero, suc, ◌+◌, ◌-◌, ◌<◌, ◌≤◌}
-use Rattle.std.specs.Prelude.{◌≡◌, refl, length, take, drop, set, replicate}
+use Rattle.std.specs.Prelude.{◌≡◌, refl, length, take, drop, set, replicate, Option, Some, None}
 use Rattle.std.proofs.Math.Path.{ap, sym}
 use Rattle.std.proofs.Common.{◌∙◌, ⊎_elim, arith, add-one, length-set, length-drop, drop_of_length-le, drop-cons, drop-drop, drop-set-lt, take-suc-set, get_or-take, get_or-drop, length-take-le}
 use mathlib.Core.List.{List, [], ◌∷◌, ◌++◌, append-nil}
-use Rattle.std.proofs.Math.Option.{Option, none, some}
 use Rattle.std.proofs.Math.Nat.{sub-zero}
 use Rattle.std.proofs.Math.ListN.{get_or, get_or-eq_default}
 use Rattle.std.proofs.Math.Seq.{append_snoc}
 use borrow.Author.Tests.{lt-ltb, le-ltb, ne_eqb}
 use Rattle.order.specs.TestLaws.{lt-or-le}
-use Rattle.line.specs.declared.numbers.Number.{Number}
-use Rattle.line.specs.declared.numbers.Number.TheVariants.{Wrong, Value}
 use Rattle.line.specs.declared.records.Record.TheVariants.{Bad}
 use Rattle.line.specs.Grammar.{value, form, record_of, with, values, recorded, read, meaning}
 use Rattle.line.specs.Fields.{front, field_end, field_ends, rest}
@@ -68,26 +65,26 @@ field-none l at e q h = ⊎_elim
 
 -- values read before others
 abbrev after : List ℕ → Option (List ℕ) → Option (List ℕ)
-after p none = none
-after p (some m) = some (p ++ m)
+after p None = None
+after p (Some m) = Some (p ++ m)
 
 after_none : (x : Option (List ℕ)) → x ≡ after [] x
-after_none none = refl
-after_none (some m) = refl
+after_none None = refl
+after_none (Some m) = refl
 
-after-with : (p : List ℕ) (n : ℕ) (x : Option (List ℕ)) → after p (with (Value n) x) ≡ after (p ++ (n ∷ [])) x
-after-with p n none = refl
-after-with p n (some m) = ap some (sym (append_snoc p n m))
+after-with : (p : List ℕ) (n : ℕ) (x : Option (List ℕ)) → after p (with (Some n) x) ≡ after (p ++ (n ∷ [])) x
+after-with p n None = refl
+after-with p n (Some m) = ap Some (sym (append_snoc p n m))
 
-values-step : (b : ℕ) (f : List ℕ) {n : ℕ} (bs : List ℕ) (fs : List (List ℕ)) → value b f ≡ Value n → values (b ∷ bs) (f ∷ fs) ≡ with (Value n) (values bs fs)
+values-step : (b : ℕ) (f : List ℕ) {n : ℕ} (bs : List ℕ) (fs : List (List ℕ)) → value b f ≡ Some n → values (b ∷ bs) (f ∷ fs) ≡ with (Some n) (values bs fs)
 unfolding values
-values-step b f bs fs e = ap (λ (x : Number). with x (values bs fs)) e
+values-step b f bs fs e = ap (λ (x : Option ℕ). with x (values bs fs)) e
 
-values-wrong : (b : ℕ) (f : List ℕ) (bs : List ℕ) (fs : List (List ℕ)) → value b f ≡ Wrong → values (b ∷ bs) (f ∷ fs) ≡ none
+values-wrong : (b : ℕ) (f : List ℕ) (bs : List ℕ) (fs : List (List ℕ)) → value b f ≡ None → values (b ∷ bs) (f ∷ fs) ≡ None
 unfolding values
-values-wrong b f bs fs e = ap (λ (x : Number). with x (values bs fs)) e
+values-wrong b f bs fs e = ap (λ (x : Option ℕ). with x (values bs fs)) e
 
-refused : (c : ℕ) {x y : Option (List ℕ)} (p : List ℕ) → x ≡ after p y → y ≡ none → Bad ≡ recorded c x
+refused : (c : ℕ) {x y : Option (List ℕ)} (p : List ℕ) → x ≡ after p y → y ≡ None → Bad ≡ recorded c x
 refused c p e q = sym (ap (recorded c) (e ∙ ap (after p) q))
 
 -- i values of the line's fields are read, and the next field starts at `at`
@@ -136,15 +133,15 @@ module _ {letter count : ℕ} {bases l ends v : List ℕ} {at i : ℕ} (g : Gets
 
   pub gets-missing : i < count → end < at → Bad ≡ recorded letter (values (form letter) (rest l 2))
   unfolding values
-  gets-missing h k = let w : values (drop i (form letter)) (rest l at) ≡ none = rw (next h, rest-none l at (field-none l at end is-end k)) in refused letter (take i v) g.same w
+  gets-missing h k = let w : values (drop i (form letter)) (rest l at) ≡ None = rw (next h, rest-none l at (field-none l at end is-end k)) in refused letter (take i v) g.same w
 
-  pub gets-wrong : i < count → at ≤ end → value (get_or bases i 0) (take (end - at) (drop at l)) ≡ Wrong → Bad ≡ recorded letter (values (form letter) (rest l 2))
+  pub gets-wrong : i < count → at ≤ end → value (get_or bases i 0) (take (end - at) (drop at l)) ≡ None → Bad ≡ recorded letter (values (form letter) (rest l 2))
   gets-wrong h k w = refused letter (take i v) g.same (more h k ∙ values-wrong (get_or bases i 0) (take (end - at) (drop at l)) (drop (suc i) (form letter)) (rest l (end + 1)) w)
 
-  pub gets-small : (n : ℕ) → value (get_or bases i 0) (take (end - at) (drop at l)) ≡ Value n → n < 4294967296
+  pub gets-small : (n : ℕ) → value (get_or bases i 0) (take (end - at) (drop at l)) ≡ Some n → n < 4294967296
   gets-small n w = value-small (get_or bases i 0) (take (end - at) (drop at l)) n w
 
-  pub gets-turn : (n : ℕ) → i < count → at ≤ end → value (get_or bases i 0) (take (end - at) (drop at l)) ≡ Value n → Gets letter count bases l ends (set v i n) (end + 1) (i + 1)
+  pub gets-turn : (n : ℕ) → i < count → at ≤ end → value (get_or bases i 0) (take (end - at) (drop at l)) ≡ Some n → Gets letter count bases l ends (set v i n) (end + 1) (i + 1)
   gets-turn n h k w =
       let j : i < length v = omega (arith, gets-few h, g.room) in
       let m : 5 - i ≡ suc (5 - suc i) = omega (arith, g.formed.most) in
@@ -169,7 +166,7 @@ module _ {letter count : ℕ} {bases l ends v : List ℕ} {at i : ℕ} (g : Gets
   unfolding values
   gets_more h k =
       let f = gets-found k in
-      let w : values (drop i (form letter)) (rest l at) ≡ none = rw (done h, rest_more l at end f.there f.is) in
+      let w : values (drop i (form letter)) (rest l at) ≡ None = rw (done h, rest_more l at end f.there f.is) in
       refused letter (take i v) g.same w
 
   past : {j : ℕ} → i ≤ j → length (take i v) ≤ j
@@ -191,7 +188,7 @@ module _ {letter count : ℕ} {bases l ends v : List ℕ} {at i : ℕ} (g : Gets
   pub gets-end : count ≤ i → end < at → record_of letter v ≡ recorded letter (values (form letter) (rest l 2))
   unfolding values record_of
   gets-end h k =
-      let w : values (form letter) (rest l 2) ≡ some (take i v) = g.same ∙ rw (done h, rest-none l at (field-none l at end is-end k)) (ap some (append-nil (take i v))) in
+      let w : values (form letter) (rest l 2) ≡ Some (take i v) = g.same ∙ rw (done h, rest-none l at (field-none l at end is-end k)) (ap Some (append-nil (take i v))) in
       let r : record_of letter v ≡ record_of letter (take i v) = rw (shown 0, shown 1, shown 2, shown 3, shown 4) in
       r ∙ sym (ap (recorded letter) w)
 

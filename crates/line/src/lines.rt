@@ -6,7 +6,7 @@ ghost use Rattle.line.specs.Takes.{Room, Takes};
 use crate::scan::end_of;
 
 // A line taken out of a piece: up to where, how many bytes of it stand in the buffer, whether it has ended, and how many of
-// them are held for the next piece, none where it has.
+// them are held for the next piece, none where it has. `Takes` and whoever fills pieces name the four, so `whole` stays beside `held`.
 #[derive(Clone, Copy)]
 pub struct Taken {
     pub next: usize,
@@ -20,17 +20,9 @@ fn hold(part: &[u8], held: &mut [u8], n: usize) -> usize
     requires { Room held.old n }
     ensures { Holds part.now held.old held.new n result }
 {
-    let mut m = n;
-    let mut i = 0;
-    while i < part.len() {
-        if m == 81 {
-            return 81;
-        }
-        held[m] = part[i];
-        m += 1;
-        i += 1;
-    }
-    m
+    let more = part.len().min(81 - n);
+    held[n..n + more].copy_from_slice(&part[..more]);
+    n + more
 }
 
 // The bytes of a piece from a place on, up to its next feed or its end, after the first n of the buffer.

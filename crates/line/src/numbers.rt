@@ -1,88 +1,68 @@
 // A field as a number: a decimal, or a coordinate's hex digits.
-ghost use Rattle.std.specs.Prelude.{◌≡◌};
+ghost use Rattle.std.specs.Prelude.{◌≡◌, ◌<◌, SomeIff};
 ghost use Rattle.line.specs.Grammar.{digit_of, numeral, decimal, coordinate, value};
 ghost use Rattle.line.specs.Leaves.{Short};
 
-#[derive(Clone, Copy)]
-pub enum Number {
-    Wrong,
-    Value(u64),
-}
-
-// A byte's value as a digit, 16 where it is none.
+// A byte's value as a digit, where it is one.
 #[tactic(auto, unfolding(crate::specs::Grammar::digit_of))]
-fn digit(byte: u8) -> u64
-    ensures { result ≡ digit_of byte }
+fn digit(byte: u8) -> Option<u64>
+    ensures { SomeIff result (digit_of byte < 16) (digit_of byte) }
 {
-    if byte < b'0' {
-        return 16;
+    match byte {
+        b'0'..=b'9' => Some(u64::from(byte - b'0')),
+        b'A'..=b'F' => Some(u64::from(byte - b'A') + 10),
+        _ => None,
     }
-    if byte <= b'9' {
-        return (byte - b'0') as u64;
-    }
-    if byte < b'A' {
-        return 16;
-    }
-    if byte <= b'F' {
-        return (byte - 55) as u64;
-    }
-    16
 }
 
 // The number that the digits of a field write in a base.
-fn read_digits(field: &[u8], base: u64) -> Number
+fn read_digits(field: &[u8], base: u64) -> Option<u64>
     requires { Short field.now base }
     ensures { result ≡ numeral base 0 field.now }
 {
-    let mut n = 0u64;
-    let mut i = 0;
-    while i < field.len() {
-        let d = digit(field[i]);
+    let mut n = 0;
+    for byte in field {
+        let d = digit(*byte)?;
         if base <= d {
-            return Number::Wrong;
+            return None;
         }
         n = n * base + d;
-        i += 1;
     }
-    Number::Value(n)
+    Some(n)
 }
 
 #[tactic(auto, using(crate::proofs::Decimals::zero_alone), unfolding(crate::specs::Grammar::decimal))]
-fn read_decimal(field: &[u8]) -> Number
+fn read_decimal(field: &[u8]) -> Option<u64>
     ensures { result ≡ decimal field.now }
 {
-    if field.len() == 0 {
-        return Number::Wrong;
-    }
-    if 10 < field.len() {
-        return Number::Wrong;
+    if field.is_empty() || 10 < field.len() {
+        return None;
     }
     if field[0] == b'0' {
         if field.len() == 1 {
-            return Number::Value(0);
+            return Some(0);
         }
-        return Number::Wrong;
+        return None;
     }
-    let Number::Value(n) = read_digits(field, 10) else {
-        return Number::Wrong;
-    };
+    let n = read_digits(field, 10)?;
     if 4294967295 < n {
-        return Number::Wrong;
+        return None;
     }
-    Number::Value(n)
+    Some(n)
 }
 
-fn read_coordinate(field: &[u8]) -> Number
+#[tactic(auto, unfolding(crate::specs::Grammar::coordinate))]
+fn read_coordinate(field: &[u8]) -> Option<u64>
     ensures { result ≡ coordinate field.now }
 {
     if field.len() != 8 {
-        return Number::Wrong;
+        return None;
     }
     read_digits(field, 16)
 }
 
 // A field in base 10 is a decimal, one in base 16 a coordinate.
-pub fn read_value(field: &[u8], base: u64) -> Number
+pub fn read_value(field: &[u8], base: u64) -> Option<u64>
     ensures { result ≡ value base field.now }
 {
     if base == 10 {

@@ -10,20 +10,22 @@ pub struct Reader<'a> {
     pub at: usize,
 }
 
-// A reader at the line's start.
-pub fn new<'a>(line: &'a [u8]) -> Reader<'a>
-    ensures { (result.line ≡ line.entry) × (result.at ≡ 0) }
-{
-    Reader { line, at: 0 }
-}
+impl<'a> Reader<'a> {
+    // A reader at the line's start.
+    pub fn new(line: &'a [u8]) -> Reader<'a>
+        ensures { (result.line ≡ line.entry) × (result.at ≡ 0) }
+    {
+        Reader { line, at: 0 }
+    }
 
-// Where the field at the reader's place ends. The reader moves on to the place after it.
-pub fn next<'s, 'a>(r: &'s mut Reader<'a>) -> usize
-    ensures { Moves r.old r.new result }
-{
-    let end = field_end(r.line, r.at);
-    r.at = end + 1;
-    end
+    // Where the field at the reader's place ends. The reader moves on to the place after it.
+    pub fn next_end(&mut self) -> usize
+        ensures { Moves self.old self.new result }
+    {
+        let end = field_end(self.line, self.at);
+        self.at = end + 1;
+        end
+    }
 }
 
 // The ends of a line's first seven fields: as many as the longest record has, and one more.
@@ -31,13 +33,10 @@ pub fn next<'s, 'a>(r: &'s mut Reader<'a>) -> usize
 pub fn field_ends(line: &[u8]) -> [usize; 7]
     ensures { result ≡ field_ends 7 line.now 0 }
 {
-    let mut r = new(line);
-    let letter = next(&mut r);
-    let first = next(&mut r);
-    let second = next(&mut r);
-    let third = next(&mut r);
-    let fourth = next(&mut r);
-    let fifth = next(&mut r);
-    let more = next(&mut r);
-    [letter, first, second, third, fourth, fifth, more]
+    let mut r = Reader::new(line);
+    let mut ends = [0; 7];
+    for end in &mut ends {
+        *end = r.next_end();
+    }
+    ends
 }

@@ -7,12 +7,8 @@ pub fn end_of(bytes: &[u8], at: usize, mark: u8) -> usize
     requires { at ≤ length bytes.now }
     ensures { Ends mark bytes.now at result }
 {
-    let mut i = at;
-    while i < bytes.len() {
-        if bytes[i] == mark {
-            return i;
-        }
-        i += 1;
+    match bytes[at..].iter().position(|byte| *byte == mark) {
+        Some(n) => at + n,
+        None => bytes.len(),
     }
-    i
 }

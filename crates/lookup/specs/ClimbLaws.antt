@@ -7,12 +7,10 @@ use Rattle.squares.specs.declared.shape.Shape.{Shape}
 use Rattle.squares.specs.Squares.{squares, squares_on, number}
 use Rattle.squares.specs.Leaves.{OnMap, Below}
 use Rattle.squares.specs.SquareLaws.{number-below}
-use Rattle.squares.specs.Refusals.{Answer, accept}
 use Rattle.position.specs.declared.Position.{Position}
 use Rattle.position.specs.Answer.{column_of, row_of}
 use Rattle.position.specs.Laws.{column-below, row_below}
-use Rattle.model.specs.declared.answers.ScoringOf.{ScoringOf}
-use Rattle.model.specs.Answers.{Values, numbers}
+use Rattle.model.specs.Answers.{numbers}
 use Rattle.model.specs.Model.{zones_at, zones_on, filled, climb, levels}
 use Rattle.model.specs.ScoringLaws.{some_to, climb-ext, climb-here, climb-on, scores-somewhere}
 use Rattle.tables.specs.Tables.{Tables, shape_of, town_of}
@@ -49,17 +47,17 @@ module _ {s : Shape} {x y : ℕ} (map : OnMap s x y) (starts : List ℕ) where
     mark : {r t : Bool} → r ≡ listed_at starts p → r ≡ t → listed_on s x y starts c.level ≡ t
     mark e q = ap (listed_at starts) (sym c.at) ∙ sym e ∙ q
 
-    answers : {t : Bool} → some_to (listed_on s x y starts) c.level ≡ t → climb (listed_on s x y starts) c.level ≡ 1 → ◌≡◌ {A = Answer Values} (accept (numbers (bit t ∷ looked ∷ []))) (accept (numbers (bit (some_to (listed_on s x y starts) s.k) ∷ climb (listed_on s x y starts) s.k ∷ [])))
+    answers : {t : Bool} → some_to (listed_on s x y starts) c.level ≡ t → climb (listed_on s x y starts) c.level ≡ 1 → numbers (bit t ∷ looked ∷ []) ≡ numbers (bit (some_to (listed_on s x y starts) s.k) ∷ climb (listed_on s x y starts) s.k ∷ [])
     answers {t} e f =
         let same : looked ≡ climb (listed_on s x y starts) s.k = omega (arith, c.count, f) in
-        ap₂ (λ (a : Bool) (b : ℕ). accept (numbers (bit a ∷ b ∷ []))) (sym (c.any ∙ e)) same
+        ap₂ (λ (a : Bool) (b : ℕ). numbers (bit a ∷ b ∷ [])) (sym (c.any ∙ e)) same
 
     -- at the first list that is not empty
-    pub climb-found : {r : Bool} → r ≡ listed_at starts p → r ≡ true → Climbs s x y starts (ScoringOf.Yes looked)
+    pub climb-found : {r : Bool} → r ≡ listed_at starts p → r ≡ true → Climbs s x y starts (record { held = true; levels = looked })
     climb-found e q = let a = climb-here (listed_on s x y starts) c.level (mark e q) in answers a.0 a.1
 
     -- past the block
-    pub climb-ended : {r : Bool} → r ≡ listed_at starts p → r ≡ false → s.k < looked → Climbs s x y starts (ScoringOf.No looked)
+    pub climb-ended : {r : Bool} → r ≡ listed_at starts p → r ≡ false → s.k < looked → Climbs s x y starts (record { held = false; levels = looked })
     unfolding some_to climb
     climb-ended e q h =
         let z : c.level ≡ 0 = omega (arith, c.sum) in

@@ -5,17 +5,16 @@ use Rattle.order.specs.BufferLaws.{Front}
 use Rattle.squares.specs.declared.shape.Shape.{Shape}
 use Rattle.squares.specs.Squares.{number}
 use Rattle.squares.specs.DifferLaws.{Apart}
-use Rattle.squares.specs.Refusals.{accept}
 use Rattle.position.specs.Answer.{on_town, column_of, row_of}
-use Rattle.model.specs.declared.answers.ScoringOf.{ScoringOf}
-use Rattle.model.specs.Answers.{numbers, scoring_is}
+use Rattle.model.specs.declared.answers.Scoring.{Scoring}
+use Rattle.model.specs.Answers.{numbers, scored}
 use Rattle.model.specs.Model.{climb}
 use Rattle.model.specs.ScoringLaws.{some_to}
 use Rattle.tables.specs.Tables.{placed_in, spot_in}
 use Rattle.tables.specs.Derived.{place}
 use Rattle.tables.specs.Runs.{listed_at, run, gathered, only, any, outside}
-use Rattle.lookup.specs.declared.looks.Looked.{Looked}
-use Rattle.lookup.specs.declared.looks.Crossed.{Crossed}
+use Rattle.model.specs.declared.answers.Looked.{Looked}
+use Rattle.model.specs.declared.answers.Crossed.{Crossed}
 
 -- the zones with f on the lists of the m smallest squares of a cell, in a buffer with so much room
 unfoldable pub looked_into : (ℕ → Bool) → Shape → ℕ → ℕ → List ℕ → List ℕ → ℕ → ℕ → List ℕ
@@ -30,8 +29,8 @@ pub record Looks (s : Shape) (x y : ℕ) (starts entries b b' : List ℕ) (r : L
 abbrev pub listed_on : Shape → ℕ → ℕ → List ℕ → ℕ → Bool
 listed_on s x y starts i = listed_at starts (place s i (number s i x y))
 
-abbrev pub Climbs : Shape → ℕ → ℕ → List ℕ → ScoringOf → Type 0
-Climbs s x y starts r = scoring_is r ≡ accept (numbers (bit (some_to (listed_on s x y starts) s.k) ∷ climb (listed_on s x y starts) s.k ∷ []))
+abbrev pub Climbs : Shape → ℕ → ℕ → List ℕ → Scoring → Type 0
+Climbs s x y starts r = scored r ≡ numbers (bit (some_to (listed_on s x y starts) s.k) ∷ climb (listed_on s x y starts) s.k ∷ [])
 
 -- from the cell (x, y) to (x', y'): the zones of the new squares that do not hold the old cell, those of the old squares
 -- that do not hold the new one

@@ -4,25 +4,29 @@ ghost use Rattle.squares.specs.Squares.{squares};
 ghost use Rattle.squares.specs.Leaves.{OnMap};
 ghost use Rattle.lookup.specs.Looks.{Climbs};
 
-use model::ScoringOf;
-use squares::Shape;
+use model::Scoring;
+use squares::{Cell, Shape};
 
 // From the unit cell up to the first square whose list is not empty: how many levels were looked at, and whether there is one.
-pub fn climb_to_zone(s: Shape, x: u32, y: u32, starts: &[u32]) -> ScoringOf
-    requires on_map { OnMap s x y }
+pub fn climb_to_zone(s: Shape, cell: Cell, starts: &[u32]) -> Scoring
+    requires on_map { OnMap s cell.x cell.y }
     requires starts_len { length starts.now ≡ squares s + 1 }
-    ensures { Climbs s x y starts.now result }
+    ensures { Climbs s cell.x cell.y starts.now result }
 {
-    let mut place = tables::place_of(s, s.k, s.number(s.k, x, y));
-    let mut looked = 1u32;
+    let mut place = tables::place_of(s, s.k, s.number(s.k, cell));
+    let mut levels = 1;
+    // No `for`: that a loop yields the answer by `break` is a rule of the project (DECISIONS 72).
     loop {
         if tables::listed(starts, place) {
-            break ScoringOf::Yes(looked);
+            break Scoring { held: true, levels };
         }
-        if looked > s.k {
-            break ScoringOf::No(looked);
+        if levels > s.k {
+            break Scoring {
+                held: false,
+                levels,
+            };
         }
         place = tables::parent_of(s, place);
-        looked += 1;
+        levels += 1;
     }
 }

@@ -5,4 +5,4 @@ mod looks; // looks.rt: the squares of a cell looked into
 mod climb; // climb.rt: the first square of a cell that has a zone
 
 pub use climb::climb_to_zone;
-pub use looks::{Crossed, cross, look_up};
+pub use looks::{cross, look_up};

@@ -12,18 +12,12 @@ use Rattle.squares.specs.Squares.{number, differ}
 use Rattle.cuts.specs.Cut.{in_cut, cut}
 use Rattle.squares.specs.Refusals.{Bar, first, Answer, refuse, accept, Result, Write, refusing, result}
 use Rattle.position.specs.declared.Position.{Position}
+use Rattle.model.specs.declared.opening.Opening.{Opening}
 use Rattle.position.specs.Answer.{on_town, column_of, row_of}
 use Rattle.model.specs.Answers.{Values, numbers, spot}
 use Rattle.model.specs.Teams.{last_team, lead, ranked}
 
 -- ---- a town
-
--- what an open is given: a shape, and the capacities of zones, cars and square entries
-pub record Opening : Type 0 where
-  pub shape : Shape
-  pub zones : ℕ
-  pub cars : ℕ
-  pub entries : ℕ
 
 -- a car on the map: its position, and its team, 0 for a spectator
 pub record Car : Type 0 where

@@ -13,7 +13,8 @@ use Rattle.grid.specs.Promises.{number_gives}
 use Rattle.position.specs.declared.Position.{Position}
 use Rattle.position.specs.Cell.{whole, in_range, on_map, cell_of}
 use Rattle.position.specs.Answer.{on_town, column_of, row_of}
-use Rattle.model.specs.Model.{Opening, nowhere, searching, emptied, after, looked, meaning, refusal}
+use Rattle.model.specs.Model.{nowhere, searching, emptied, after, looked, meaning, refusal}
+use Rattle.model.specs.declared.opening.Opening.{Opening}
 use Rattle.model.specs.Whole.{rect}
 
 -- k=2, P=Q=4; k=0, P=3, Q=2; 256 wide and high; k=2, P=3, Q=2: 12 wide

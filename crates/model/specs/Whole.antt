@@ -14,7 +14,8 @@ use Rattle.position.specs.declared.Position.{Position}
 use Rattle.position.specs.Cell.{whole, in_range, on_map, cell_of}
 use Rattle.position.specs.Answer.{on_town, column_of, row_of}
 use Rattle.model.specs.Answers.{Values, numbers}
-use Rattle.model.specs.Model.{Opening, Town, nowhere, Call, opening, adding, removing, reporting, leaving, ask_roster, ask_count, ask_scoring, climb, change, after, Lengths, meaning, outcome}
+use Rattle.model.specs.Model.{Town, nowhere, Call, opening, adding, removing, reporting, leaving, ask_roster, ask_count, ask_scoring, climb, change, after, Lengths, meaning, outcome}
+use Rattle.model.specs.declared.opening.Opening.{Opening}
 
 -- the log's capacities; tables with the lengths of the town
 unfoldable pub asked : Opening

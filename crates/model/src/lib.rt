@@ -1,9 +1,8 @@
-// What a town is and what each call does and answers; of code, what the calls answer.
+// What a town is and what each call does and answers; of code, what an open is given and what the calls answer.
 #![tactic(auto)]
 
+mod opening; // opening.rt: what an open is given
 mod answers; // answers.rt: what the calls answer
 
-pub use answers::{
-    Added, CountOf, HolderOf, Left, Opened, Removed, Reported, Ridden, RosterOf, ScoringOf,
-    Searched, SoundnessOf, Standing, WhereIs,
-};
+pub use answers::{Added, Crossed, Looked, Ridden, Scoring, Standing};
+pub use opening::Opening;

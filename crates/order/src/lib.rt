@@ -4,7 +4,7 @@
 ghost use Rattle.std.specs.Prelude.{◌≤◌, ◌≡◌, ◌∷◌, length, set, take};
 ghost use Rattle.order.specs.Buffer.{Ranked, Put, Lower, ends_below};
 
-// A number as an index.
+// A number as an index. By `as`: the library has no `usize::from` of a u32, nor `try_from`.
 pub fn wide(x: u32) -> usize
     ensures { result ≡ x }
 {
@@ -26,17 +26,11 @@ pub fn ends_below(list: &[u32], x: usize, n: usize) -> bool
 pub fn rank_of(list: &[u32], x: u32) -> usize
     ensures { Ranked x list.now result }
 {
-    let mut i = 0;
-    while i < list.len() {
-        if x <= list[i] {
-            return i;
-        }
-        i += 1;
-    }
-    i
+    list.iter().take_while(|y| **y < x).count()
 }
 
-// Whether the number at i is left of those up to n, and below the one at j, where that is left of those up to an end.
+// Whether the number at i is left of those up to n, and below the one at j, where that is left of those up to an end. One list
+// with its bounds, since both parts are of the same list.
 pub fn is_lower(list: &[u32], i: usize, n: usize, j: usize, end: usize) -> bool
     requires n_in_bounds { n ≤ length list.now }
     requires end_in_bounds { end ≤ length list.now }
@@ -55,18 +49,15 @@ pub fn is_lower(list: &[u32], i: usize, n: usize, j: usize, end: usize) -> bool
 pub fn slide(part: &mut [u32], x: u32)
     ensures { part.new ≡ take (length part.old) (x ∷ part.old) }
 {
-    let mut next = x;
-    let mut i = 0;
-    while i < part.len() {
-        let here = part[i];
-        part[i] = next;
-        next = here;
-        i += 1;
+    let n = part.len();
+    if 0 < n {
+        part.copy_within(..n - 1, 1);
+        part[0] = x;
     }
 }
 
 // x is stored at place n where the buffer has that place.
-pub fn store(buffer: &mut [u32], n: usize, x: u32)
+pub fn store<T: Copy>(buffer: &mut [T], n: usize, x: T)
     ensures { buffer.new ≡ set buffer.old n x }
 {
     if n < buffer.len() {
@@ -74,16 +65,8 @@ pub fn store(buffer: &mut [u32], n: usize, x: u32)
     }
 }
 
-// The same for a buffer of bytes.
-pub fn store_byte(buffer: &mut [u8], n: usize, x: u8)
-    ensures { buffer.new ≡ set buffer.old n x }
-{
-    if n < buffer.len() {
-        buffer[n] = x;
-    }
-}
-
-// x is put in its place among the first n numbers, unless it is there or the buffer is full.
+// x is put in its place among the first n numbers, unless it is there or the buffer is full. The buffer and n, and no part of it:
+// the place behind the first n is written too.
 // Answers how many there are now.
 pub fn put(buffer: &mut [u32], n: usize, x: u32) -> usize
     requires { n ≤ length buffer.old }

@@ -7,8 +7,8 @@ use Rattle.tables.specs.Tables.{Tables, town_of}
 use Rattle.season.specs.Output.{Line, reply}
 use Rattle.room.specs.Room.{Roomed, Ready}
 use Rattle.records.specs.Replies.{tables_after}
-use Rattle.pieces.specs.declared.pieces.Filling.{Filling}
-use Rattle.pieces.specs.Pieces.{Filled, holding, checks}
+use Rattle.pieces.specs.declared.pieces.Filled.{Filled as Counts}
+use Rattle.pieces.specs.Pieces.{Filled, holding, checks, counts}
 
 -- the number of the refusal, or 0
 pub record Refuses (t : Tables) (b o : List ℕ) (r : ℕ) : Type 0 where
@@ -41,6 +41,6 @@ pub record Answers (t : Both Tables Tables) (ended : Bool) (line : Line) (o o' :
   pub tables : Ready t.entry → t.exit ≡ tables_if ended t.entry line
 
 -- what a call that is not refused leaves
-pub record Passes (f : Filled) (t : Both Tables Tables) (piece b' o o' : List ℕ) (said : Filling) : Type 0 where
-  pub passes : (read : ℕ) × (wrote : ℕ) × (said ≡ Filling.Done read wrote) × (read ≤ length piece) × (wrote ≤ length o)
-  pub does : Ready t.entry → (said ≡ Filling.Done (length piece - length f.rest) (length f.text)) × (t.exit ≡ f.tables) × (b' ≡ holding f.held) × (o' ≡ over f.text o)
+pub record Passes (f : Filled) (t : Both Tables Tables) (piece b' o o' : List ℕ) (said : Counts) : Type 0 where
+  pub passes : (said.read ≤ length piece) × (said.wrote ≤ length o)
+  pub does : Ready t.entry → (said ≡ counts (length piece - length f.rest) (length f.text)) × (t.exit ≡ f.tables) × (b' ≡ holding f.held) × (o' ≡ over f.text o)

@@ -1,9 +1,9 @@
 -- The walk through a piece, line by line, and what a call leaves then.
 use Rattle.std.specs.Prelude.{ℕ, zero, suc, ◌+◌, ◌-◌, ◌<◌, ◌≤◌, ◌≡◌, refl, Bool, true, false, List, [], ◌∷◌, ◌++◌, ltb, length, get_or, take, drop, set, replicate}
-use Rattle.std.proofs.Common.{ap, ap₂, sym, subst, ◌∙◌, ⊎_elim, append_assoc, append-nil, arith, add-one, length-drop, length-set, drop_of_length-le, take_all, take-suc-set, length-take-le, drop-drop}
+use Rattle.std.proofs.Common.{ap, ap₂, sym, subst, ◌∙◌, ⊎_elim, append_assoc, append-nil, arith, add-one, length-drop, length-set, drop_of_length-le, take_all, take-suc-set, length-take-le, drop-drop, length-append, take_at}
 use Rattle.std.proofs.lemmas.List.Edits.{sets, sets-eq}
-use Rattle.std.proofs.lemmas.List.{set_split}
-use borrow.Rule.Slice.PartMut.{mid_of, put_mid, same_len_mid}
+use Rattle.std.proofs.lemmas.List.{set_split, length-replicate}
+use borrow.Rule.Slice.PartMut.{mid_of, put_mid, post_of, same_len_mid, mid_len}
 use Rattle.order.specs.Order.{over, Wrote}
 use Rattle.order.specs.BufferLaws.{wrote_none, wrote-more, wrote-over}
 use Rattle.order.specs.TestLaws.{lt-or-le}
@@ -14,8 +14,7 @@ use Rattle.line.specs.Takes.{Takes}
 use Rattle.season.specs.Output.{Line, line_of}
 use Rattle.room.specs.Room.{Roomed, Ready}
 use Rattle.records.specs.Replies.{Replies}
-use Rattle.pieces.specs.declared.pieces.Filling.{Filling}
-use Rattle.pieces.specs.Pieces.{held_in, holding, writing, fill, finish}
+use Rattle.pieces.specs.Pieces.{held_in, holding, writing, fill, finish, counts}
 use Rattle.pieces.specs.Leaves.{Lending, GoesOn, text_if, tables_if, Answers, Passes}
 use Rattle.records.specs.AfterLaws.{ready-after}
 use Rattle.pieces.specs.FillLaws.{stopped, writing-writing, fill_end, fill-full, fill-takes, finish-is}
@@ -62,6 +61,20 @@ module _ {b c : List ℕ} {n j : ℕ} (z : Zeroed b c n j) where
       let d : drop 82 c ≡ [] = drop_of_length-le c g in
       let s : length (take n b) ≡ n = length-take-le n b l in
       set_split c 81 n (omega (arith, z.long)) ∙ rw (d, s, sym e, z.is) (append_assoc (take n b) (replicate (j - n) 0) (n ∷ []))
+
+-- those from n up to 81 are filled with 0
+pub zero-fills : {b z : List ℕ} {n : ℕ} → length b ≡ 82 → n ≤ 81 → z ≡ replicate (length (mid_of n (81 - n) b)) 0 → Zeroed b (put_mid n (81 - n) b z) n 81
+zero-fills {b} {z} {n} l h e =
+    let many : length (mid_of n (81 - n) b) ≡ 81 - n = mid_len n 81 b (omega arith) in
+    let zeros : z ≡ replicate (81 - n) 0 = e ∙ ap (λ (k : ℕ). replicate {A = ℕ} k 0) many in
+    let size : length z ≡ length (mid_of n (81 - n) b) = ap length e ∙ length-replicate {A = ℕ} (length (mid_of n (81 - n) b)) 0 in
+    let front : length (take n b) ≡ n = length-take-le n b (omega arith) in
+    record {
+      is = ap (take 81) (sym (append_assoc (take n b) z (post_of n (81 - n) b))) ∙ take_at (take n b ++ z) (post_of n (81 - n) b) 81 (omega (arith, length-append (take n b) z, size, many, front)) ∙ ap (λ (x : List ℕ). take n b ++ x) zeros;
+      from = h;
+      within = omega arith;
+      long = same_len_mid n (81 - n) b z size ∙ l;
+    }
 
 -- ---- the walk
 
@@ -149,9 +162,9 @@ module _ {t u v : Tables} {piece b c c' o o' q : List ℕ} {at m n next bytes r 
   }
 
 -- what a call leaves that has read up to `at`
-pub walk_ends : {t u : Tables} {piece b c b' o o' : List ℕ} {at m n : ℕ} {more : Bool} → Walking t u piece b c o o' at m n → GoesOn (length piece - at) (length o' - n) more → more ≡ false → b' ≡ holding (take m c) → Passes (fill (length o) t (held_in b) piece) (both t u) piece b' o o' (Filling.Done at n)
+pub walk_ends : {t u : Tables} {piece b c b' o o' : List ℕ} {at m n : ℕ} {more : Bool} → Walking t u piece b c o o' at m n → GoesOn (length piece - at) (length o' - n) more → more ≡ false → b' ≡ holding (take m c) → Passes (fill (length o) t (held_in b) piece) (both t u) piece b' o o' (counts at n)
 walk_ends {t} {u} {piece} {b} {c} {b'} {o} {o'} {at} {m} {n} {more} w goes_on left kept = record {
-  passes = (at, n, refl, w.within, w.space);
+  passes = (w.within, w.space);
   does = λ ready. done (w.going ready);
 }
   where
@@ -161,18 +174,18 @@ walk_ends {t} {u} {piece} {b} {c} {b'} {o} {o'} {at} {m} {n} {more} w goes_on le
         (λ (h : 768 ≤ length o - n). let g : length piece ≤ at = omega (arith, goes_on.ends left (omega (arith, h, w.wide))) in let d : drop at piece ≡ [] = drop_of_length-le piece g in rw d (fill_end (length o - n) u (take m c)))
         (lt-or-le (length o - n) 768)
 
-    done : Going t u piece b c o o' at m n → (Filling.Done at n ≡ Filling.Done (length piece - length (fill (length o) t (held_in b) piece).rest) (length (fill (length o) t (held_in b) piece).text)) × (u ≡ (fill (length o) t (held_in b) piece).tables) × (b' ≡ holding (fill (length o) t (held_in b) piece).held) × (o' ≡ over (fill (length o) t (held_in b) piece).text o)
+    done : Going t u piece b c o o' at m n → (counts at n ≡ counts (length piece - length (fill (length o) t (held_in b) piece).rest) (length (fill (length o) t (held_in b) piece).text)) × (u ≡ (fill (length o) t (held_in b) piece).tables) × (b' ≡ holding (fill (length o) t (held_in b) piece).held) × (o' ≡ over (fill (length o) t (held_in b) piece).text o)
     done g =
         let e : fill (length o) t (held_in b) piece ≡ record { tables = u; held = take m c; text = g.text; rest = drop at piece } = g.same ∙ ap (writing g.text) stops-here ∙ ap (λ (x : List ℕ). record { tables = u; held = take m c; text = x; rest = drop at piece }) (append-nil g.text) in
         let read : at ≡ length piece - length (drop at piece) = omega (arith, length-drop at piece, w.within) in
-        rw e (ap₂ Filling.Done read (g.written.next ∙ omega arith), refl, kept, wrote-over g.written (omega (arith, g.written.next, w.space)))
+        rw e (ap₂ counts read (g.written.next ∙ omega arith), refl, kept, wrote-over g.written (omega (arith, g.written.next, w.space)))
 
 -- at the input's end
-pub ends : {t u : Tables} {b b' o o' : List ℕ} {n : ℕ} → Lending t b o → Answers (both t u) (ltb 0 (get_or b 81 0)) (line_of (held_in b)) o o' n → b' ≡ holding [] → Passes (finish t (held_in b)) (both t u) [] b' o o' (Filling.Done 0 n)
+pub ends : {t u : Tables} {b b' o o' : List ℕ} {n : ℕ} → Lending t b o → Answers (both t u) (ltb 0 (get_or b 81 0)) (line_of (held_in b)) o o' n → b' ≡ holding [] → Passes (finish t (held_in b)) (both t u) [] b' o o' (counts 0 n)
 ends {t} {u} {b} {b'} {o} {o'} {n} k a kept = record {
-  passes = (0, n, refl, omega arith, omega (arith, a.few, k.wide));
+  passes = (omega arith, omega (arith, a.few, k.wide));
   does = λ ready.
       let w = a.text ready in
       let s : length (held_in b) ≡ get_or b 81 0 = length-take-le (get_or b 81 0) b (omega (arith, k.few, k.long)) in
-      rw (finish-is t (held_in b) (get_or b 81 0) s) (ap₂ Filling.Done refl (w.next ∙ omega arith), a.tables ready, kept, wrote-over w (omega (arith, w.next, a.few, k.wide)));
+      rw (finish-is t (held_in b) (get_or b 81 0) s) (ap₂ counts refl (w.next ∙ omega arith), a.tables ready, kept, wrote-over w (omega (arith, w.next, a.few, k.wide)));
 }

@@ -1,13 +1,16 @@
 -- A piece of the input answered into a lent buffer.
 use Rattle.std.specs.Prelude.{ℕ, ◌-◌, ◌*◌, ◌≤◌, ◌≡◌, Bool, cond, ◌&&◌, List, [], ◌∷◌, ◌++◌, ltb, leb, eqb, length, get_or, take, replicate}
+use Rattle.std.specs.declared.result.Result.{Result}
+use Rattle.std.specs.declared.result.Result.TheVariants.{Ok}
 use denote.Triple.Both.{Both}
 use Rattle.order.specs.Order.{over}
-use Rattle.squares.specs.Refusals.{Bar, first}
+use Rattle.squares.specs.declared.refusal.Refusal.{Refusal}
+use Rattle.squares.specs.Refusals.{Bar, first, refused_by}
 use Rattle.tables.specs.Tables.{Tables, tally, town_of}
 use Rattle.season.specs.Output.{line_of, reply}
 use Rattle.room.specs.Room.{Ready}
 use Rattle.records.specs.Replies.{tables_after}
-use Rattle.pieces.specs.declared.pieces.Filling.{Filling}
+use Rattle.pieces.specs.declared.pieces.Filled.{Filled as Counts}
 
 -- ---- the bytes of a line that has not ended
 
@@ -52,15 +55,23 @@ finish t (b ∷ held) = record { tables = tables_after t (line_of (b ∷ held));
 abbrev pub roomed : Tables → Bool
 roomed t = eqb (length t.records.head) 6 && (eqb (length t.records.zones) 64 && (eqb (length t.records.cars) 64 && (eqb (length t.records.spots) 128 && (eqb (length t.derived.starts) 5462 && (eqb (length t.derived.entries) 2048 && (eqb (length t.derived.rosters) 1024 && eqb (length t.derived.tallies) (16 * tally)))))))
 
+-- the bytes held have their length, and count themselves
+abbrev pub counted : List ℕ → Bool
+counted b = eqb (length b) 82 && leb (get_or b 81 0) 81
+
 -- what is asked, in order, with the number of the refusal
 abbrev pub checks : Tables → List ℕ → List ℕ → List Bar
-checks t b o = (roomed t, 3) ∷ (eqb (length b) 82 && leb (get_or b 81 0) 81, 3) ∷ (leb 768 (length o), 11) ∷ []
+checks t b o = (roomed t, 3) ∷ (counted b, 3) ∷ (leb 768 (length o), 11) ∷ []
+
+-- how much was read and written
+abbrev pub counts : ℕ → ℕ → Counts
+counts read wrote = record { read = read; wrote = wrote }
 
 -- t has the tables at entry and at exit, b and b' are the bytes held, o and o' the buffer; what should be left is f
-pub record Fills (f : Filled) (t : Both Tables Tables) (piece b b' o o' : List ℕ) (said : Filling) : Type 0 where
+pub record Fills (f : Filled) (t : Both Tables Tables) (piece b b' o o' : List ℕ) (said : Result Counts Refusal) : Type 0 where
   -- on any tables, a call that is barred answers that number, and nothing changes
-  pub refuses : (first (checks t.entry b o) ≡ 0 → ⊥) → (said ≡ Filling.Refused (first (checks t.entry b o))) × (t.exit ≡ t.entry) × (b' ≡ b) × (o' ≡ o)
+  pub refuses : (first (checks t.entry b o) ≡ 0 → ⊥) → (refused_by said ≡ first (checks t.entry b o)) × (t.exit ≡ t.entry) × (b' ≡ b) × (o' ≡ o)
   -- on any tables, one that is not reads and writes within what it is lent
-  pub passes : first (checks t.entry b o) ≡ 0 → (read : ℕ) × (wrote : ℕ) × (said ≡ Filling.Done read wrote) × (read ≤ length piece) × (wrote ≤ length o)
+  pub passes : first (checks t.entry b o) ≡ 0 → (read : ℕ) × (wrote : ℕ) × (said ≡ Ok (counts read wrote)) × (read ≤ length piece) × (wrote ≤ length o)
   -- where a town is open, it is sound: everything is set
-  pub does : first (checks t.entry b o) ≡ 0 → Ready t.entry → (said ≡ Filling.Done (length piece - length f.rest) (length f.text)) × (t.exit ≡ f.tables) × (b' ≡ holding f.held) × (o' ≡ over f.text o)
+  pub does : first (checks t.entry b o) ≡ 0 → Ready t.entry → (said ≡ Ok (counts (length piece - length f.rest) (length f.text))) × (t.exit ≡ f.tables) × (b' ≡ holding f.held) × (o' ≡ over f.text o)

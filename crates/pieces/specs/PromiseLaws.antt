@@ -1,15 +1,18 @@
 -- Laws of the promise: what is asked, a call that is refused and one that is not, and that it leaves one outcome.
 use Rattle.std.specs.Prelude.{ℕ, ◌<◌, ◌≤◌, ◌≡◌, refl, Bool, true, false, ◌&&◌, List, leb, eqb, length, get_or}
+use Rattle.std.specs.declared.result.Result.{Result}
+use Rattle.std.specs.declared.result.Result.TheVariants.{Ok, Err}
 use Rattle.std.proofs.Common.{ap, sym, ◌∙◌, ⊎_elim, eqb-true, leb-true, eq-eqb, le-leb}
 use Rattle.std.proofs.lemmas.Bool.{lt-leb}
 use Rattle.order.specs.TestLaws.{and→, fails, true-or-false}
-use Rattle.squares.specs.Refusals.{first}
-use Rattle.squares.specs.RefusalLaws.{clear, stops, by-refusal}
+use Rattle.squares.specs.declared.refusal.Refusal.{Refusal}
+use Rattle.squares.specs.Refusals.{first, number_of, refused_by}
+use Rattle.squares.specs.RefusalLaws.{clear, stops, by-refusal, number-same, some-number}
 use Rattle.tables.specs.Tables.{Tables}
 use Rattle.tables.specs.Lent.{both}
 use Rattle.room.specs.Room.{Roomed, Ready}
-use Rattle.pieces.specs.declared.pieces.Filling.{Filling}
-use Rattle.pieces.specs.Pieces.{Filled, roomed, checks, Fills}
+use Rattle.pieces.specs.declared.pieces.Filled.{Filled as Counts}
+use Rattle.pieces.specs.Pieces.{Filled, roomed, counted, checks, Fills}
 use Rattle.pieces.specs.Leaves.{Refuses, Lending, Passes}
 
 -- ---- what is asked
@@ -36,10 +39,6 @@ roomed→ t e =
 
 →roomed : (t : Tables) → Roomed t → roomed t ≡ true
 →roomed t room = simp (eq-eqb _ _ room.head, eq-eqb _ _ room.zones, eq-eqb _ _ room.cars, eq-eqb _ _ room.spots, eq-eqb _ _ room.starts, eq-eqb _ _ room.entries, eq-eqb _ _ room.rosters, eq-eqb _ _ room.tallies)
-
--- the test of the held bytes
-abbrev counted : List ℕ → Bool
-counted b = eqb (length b) 82 && leb (get_or b 81 0) 81
 
 counted→ : (b : List ℕ) → counted b ≡ true → (length b ≡ 82) × (get_or b 81 0 ≤ 81)
 counted→ b e = let h = and→ (eqb (length b) 82) (leb (get_or b 81 0) 81) e in (eqb-true _ _ h.0, leb-true _ _ h.1)
@@ -73,19 +72,29 @@ module _ {t : Tables} {b o : List ℕ} where
 
 -- ---- what is promised
 
-pub fills-refused : {f : Filled} {t : Tables} {piece b o : List ℕ} {n : ℕ} → Refuses t b o n → (n ≡ 0 → ⊥) → Fills f (both t t) piece b b o o (Filling.Refused n)
-fills-refused e h = record {
-  refuses = λ g. (ap Filling.Refused e.is, refl, refl, refl);
-  passes = λ g. absurd (h (e.is ∙ g));
-  does = λ g r. absurd (h (e.is ∙ g));
+pub fills-refused : {f : Filled} {t : Tables} {piece b o : List ℕ} {r : Refusal} → Refuses t b o (number_of r) → Fills f (both t t) piece b b o o (Err r)
+fills-refused {r = r} e = record {
+  refuses = λ g. (e.is, refl, refl, refl);
+  passes = λ g. absurd (some-number r (e.is ∙ g));
+  does = λ g ready. absurd (some-number r (e.is ∙ g));
 }
 
-pub fills-passed : {f : Filled} {t u : Tables} {piece b b' o o' : List ℕ} {said : Filling} {n : ℕ} → Refuses t b o n → n ≡ 0 → Passes f (both t u) piece b' o o' said → Fills f (both t u) piece b b' o o' said
-fills-passed e h p = record { refuses = λ g. absurd (g (sym e.is ∙ h)); passes = λ g. p.passes; does = λ g. p.does }
+pub fills-passed : {f : Filled} {t u : Tables} {piece b b' o o' : List ℕ} {said : Counts} {n : ℕ} → Refuses t b o n → n ≡ 0 → Passes f (both t u) piece b' o o' said → Fills f (both t u) piece b b' o o' (Ok said)
+fills-passed {said = said} e h p = record {
+  refuses = λ g. absurd (g (sym e.is ∙ h));
+  passes = λ g. (said.read, said.wrote, refl, p.passes.0, p.passes.1);
+  does = λ g ready. let d = p.does ready in (ap Ok d.0, d.1, d.2, d.3);
+}
+
+-- two answers that are refused by one number are the same
+refused-same : {A : Type 0} (r s : Result A Refusal) {n : ℕ} → refused_by r ≡ n → refused_by s ≡ n → (n ≡ 0 → ⊥) → r ≡ s
+refused-same (Ok a) s e f g = absurd (g (sym e))
+refused-same (Err r) (Ok a) e f g = absurd (g (sym f))
+refused-same (Err r) (Err s) e f g = ap Err (number-same r s (e ∙ sym f))
 
 -- two outcomes that are allowed on the same ready tables, piece and buffers are equal
-pub fills-unique : {f : Filled} {t u v : Tables} {piece b b₁ b₂ o o₁ o₂ : List ℕ} {r s : Filling} → Ready t → Fills f (both t u) piece b b₁ o o₁ r → Fills f (both t v) piece b b₂ o o₂ s → (r ≡ s) × (u ≡ v) × (b₁ ≡ b₂) × (o₁ ≡ o₂)
+pub fills-unique : {f : Filled} {t u v : Tables} {piece b b₁ b₂ o o₁ o₂ : List ℕ} {r s : Result Counts Refusal} → Ready t → Fills f (both t u) piece b b₁ o o₁ r → Fills f (both t v) piece b b₂ o o₂ s → (r ≡ s) × (u ≡ v) × (b₁ ≡ b₂) × (o₁ ≡ o₂)
 fills-unique {f} {t} {u} {v} {piece} {b} {b₁} {b₂} {o} {o₁} {o₂} {r} {s} ready x y =
     by-refusal (first (checks t b o))
     (λ (e : first (checks t b o) ≡ 0). let p = x.does e ready in let q = y.does e ready in (p.0 ∙ sym q.0, p.1 ∙ sym q.1, p.2 ∙ sym q.2, p.3 ∙ sym q.3))
-    (λ (g : first (checks t b o) ≡ 0 → ⊥). let p = x.refuses g in let q = y.refuses g in (p.0 ∙ sym q.0, p.1 ∙ sym q.1, p.2 ∙ sym q.2, p.3 ∙ sym q.3))
+    (λ (g : first (checks t b o) ≡ 0 → ⊥). let p = x.refuses g in let q = y.refuses g in (refused-same r s p.0 q.0 g, p.1 ∙ sym q.1, p.2 ∙ sym q.2, p.3 ∙ sym q.3))

@@ -3,4 +3,4 @@
 
 mod pieces; // pieces.rt: line after line, and what is held of the last one
 
-pub use pieces::{Filling, fill_last, fill_lines, refuse};
+pub use pieces::{Filled, fill_last, fill_lines, refuse};

@@ -1,80 +1,62 @@
 // A piece of the input answered line by line, and what is held at the input's end.
 ghost use Rattle.std.specs.Prelude.{◌≤◌, ◌≡◌, [], length, take};
-ghost use Rattle.tables.specs.Lent.{lent, given, as_read, as_written};
+ghost use Rattle.squares.specs.Refusals.{refused_by};
+ghost use Rattle.tables.specs.Lent.{given_read, given_open, lent_open};
 ghost use Rattle.season.specs.Output.{line_of};
 ghost use Rattle.room.specs.Room.{Roomed};
-ghost use Rattle.pieces.specs.Pieces.{held_in, holding, fill, finish};
+ghost use Rattle.pieces.specs.Pieces.{held_in, holding, fill, finish, roomed, counted};
 ghost use Rattle.pieces.specs.Leaves.{Refuses, Lending, GoesOn, Answers, Passes};
 
+use squares::Refusal;
 use steps::step;
-use tables::TALLY;
+use tables::{OpenTables, ReadTables, TALLY};
 
-// Refused by a number, or how many bytes of the piece were read and how many of the buffer were written.
+// How many bytes of the piece were read, and how many of the buffer were written.
 #[derive(Clone, Copy)]
-pub enum Filling {
-    Refused(u32),
-    Done(usize, usize),
+pub struct Filled {
+    pub read: usize,
+    pub wrote: usize,
 }
 
-// The number of the refusal, or 0.
-pub fn refuse(
-    head: &[u32],
-    zones: &[u32],
-    cars: &[u32],
-    spots: &[f32],
-    starts: &[u32],
-    entries: &[u32],
-    rosters: &[u8],
-    tallies: &[u32],
-    held: &[u8],
-    out: &[u8],
-) -> u32
-    ensures { Refuses (lent (as_read head) (as_read zones) (as_read cars) (as_read spots) (as_read starts) (as_read entries) (as_read rosters) (as_read tallies)).entry held.now out.now result }
+// Whether the tables have the lengths of the program's.
+fn roomed(town: ReadTables<'_>) -> bool
+    ensures { result ≡ roomed (given_read town.entry) }
 {
-    if head.len() != 6 {
-        return 3;
-    }
-    if zones.len() != 64 {
-        return 3;
-    }
-    if cars.len() != 64 {
-        return 3;
-    }
-    if spots.len() != 128 {
-        return 3;
-    }
-    if starts.len() != 5462 {
-        return 3;
-    }
-    if entries.len() != 2048 {
-        return 3;
-    }
-    if rosters.len() != 1024 {
-        return 3;
-    }
-    if tallies.len() != 16 * TALLY {
-        return 3;
-    }
-    if held.len() != 82 {
-        return 3;
-    }
-    if held[81] > 81 {
-        return 3;
+    town.head.len() == 6
+        && town.zones.len() == 64
+        && town.cars.len() == 64
+        && town.spots.len() == 128
+        && town.starts.len() == 5462
+        && town.entries.len() == 2048
+        && town.rosters.len() == 1024
+        && town.tallies.len() == 16 * TALLY
+}
+
+// Whether the bytes held have their length, and count themselves.
+fn counted(held: &[u8]) -> bool
+    ensures { result ≡ counted held.now }
+{
+    held.len() == 82 && held[81] <= 81
+}
+
+// What a call asks: 3, 11.
+pub fn refuse(town: ReadTables<'_>, held: &[u8], out: &[u8]) -> Result<(), Refusal>
+    ensures { Refuses (given_read town.entry) held.now out.now (refused_by result) }
+{
+    if !roomed(town) || !counted(held) {
+        return Err(Refusal::Tables);
     }
     if out.len() < 768 {
-        return 11;
+        return Err(Refusal::Buffer);
     }
-    0
+    Ok(())
 }
 
 // Whether a line more is taken: some of the piece is left, and any answer has room.
 fn goes_on(left: usize, room: usize) -> bool
     ensures { GoesOn left room result }
 {
-    if left == 0 {
-        return false;
-    }
-    768 <= room
+    0 < left && 768 <= room
 }
 
 // The first n bytes stay held: the others are 0, and the last says n.
@@ -82,101 +64,17 @@ fn keep_held(held: &mut [u8], n: usize)
     requires { (length held.old ≡ 82) × (n ≤ 81) }
     ensures { held.new ≡ holding (take n held.old) }
 {
-    let mut i = n;
-    while i < 81 {
-        held[i] = 0;
-        i += 1;
-    }
+    held[n..81].fill(0);
     held[81] = n as u8;
 }
 
-// A line that has ended is answered; of another nothing is written. Answers how long the text is.
-fn answer_line(
-    head: &mut [u32],
-    zones: &mut [u32],
-    cars: &mut [u32],
-    spots: &mut [f32],
-    starts: &mut [u32],
-    entries: &mut [u32],
-    rosters: &mut [u8],
-    tallies: &mut [u32],
-    ended: bool,
-    line: &[u8],
-    out: &mut [u8],
-) -> usize
-    requires { Roomed (given head.old zones.old cars.old spots.old starts.old entries.old rosters.old tallies.old) }
-    ensures { Answers (lent (as_written head) (as_written zones) (as_written cars) (as_written spots) (as_written starts) (as_written entries) (as_written rosters) (as_written tallies)) ended (line_of line.now) out.old out.new result }
+// A line that has ended is answered; of another nothing is written. Answers how long the text is. The struct is taken apart and made
+// again, here and in `replay`: of one that is passed on whole the check does not know what is behind its references afterwards.
+fn answer_line(town: OpenTables<'_>, ended: bool, line: &[u8], out: &mut [u8]) -> usize
+    requires { Roomed (given_open town) }
+    ensures { Answers (lent_open town) ended (line_of line.now) out.old out.new result }
 {
-    if !ended {
-        return 0;
-    }
-    step(
-        head, zones, cars, spots, starts, entries, rosters, tallies, line, out,
-    )
-}
-
-// Answers line after line of a piece, as far as the buffer goes, and holds what has not ended.
-pub fn fill_lines(
-    head: &mut [u32],
-    zones: &mut [u32],
-    cars: &mut [u32],
-    spots: &mut [f32],
-    starts: &mut [u32],
-    entries: &mut [u32],
-    rosters: &mut [u8],
-    tallies: &mut [u32],
-    piece: &[u8],
-    held: &mut [u8],
-    out: &mut [u8],
-) -> Filling
-    requires { Lending (given head.old zones.old cars.old spots.old starts.old entries.old rosters.old tallies.old) held.old out.old }
-    ensures { Passes (fill (length out.old) (lent (as_written head) (as_written zones) (as_written cars) (as_written spots) (as_written starts) (as_written entries) (as_written rosters) (as_written tallies)).entry (held_in held.old) piece.now) (lent (as_written head) (as_written zones) (as_written cars) (as_written spots) (as_written starts) (as_written entries) (as_written rosters) (as_written tallies)) piece.now held.new out.old out.new result }
-{
-    let mut at = 0;
-    let mut many = held[81] as usize;
-    let mut wrote = 0;
-    while goes_on(piece.len() - at, out.len() - wrote) {
-        let taken = line::take_line(piece, at, held, many);
-        let bytes = taken.bytes;
-        wrote += answer_line(
-            head,
-            zones,
-            cars,
-            spots,
-            starts,
-            entries,
-            rosters,
-            tallies,
-            taken.whole,
-            &held[..bytes],
-            &mut out[wrote..],
-        );
-        at = taken.next;
-        many = taken.held;
-    }
-    keep_held(held, many);
-    Filling::Done(at, wrote)
-}
-
-// Answers what is held, where that is anything: the last line may lack its feed.
-pub fn fill_last(
-    head: &mut [u32],
-    zones: &mut [u32],
-    cars: &mut [u32],
-    spots: &mut [f32],
-    starts: &mut [u32],
-    entries: &mut [u32],
-    rosters: &mut [u8],
-    tallies: &mut [u32],
-    held: &mut [u8],
-    out: &mut [u8],
-) -> Filling
-    requires { Lending (given head.old zones.old cars.old spots.old starts.old entries.old rosters.old tallies.old) held.old out.old }
-    ensures { Passes (finish (lent (as_written head) (as_written zones) (as_written cars) (as_written spots) (as_written starts) (as_written entries) (as_written rosters) (as_written tallies)).entry (held_in held.old)) (lent (as_written head) (as_written zones) (as_written cars) (as_written spots) (as_written starts) (as_written entries) (as_written rosters) (as_written tallies)) [] held.new out.old out.new result }
-{
-    let many = held[81] as usize;
-    let some = many > 0;
-    let wrote = answer_line(
+    let OpenTables {
         head,
         zones,
         cars,
@@ -185,10 +83,92 @@ pub fn fill_last(
         entries,
         rosters,
         tallies,
-        some,
-        &held[..many],
-        out,
-    );
+    } = town;
+    if ended {
+        let town = OpenTables {
+            head,
+            zones,
+            cars,
+            spots,
+            starts,
+            entries,
+            rosters,
+            tallies,
+        };
+        step(town, line, out)
+    } else {
+        0
+    }
+}
+
+// Answers line after line of a piece, as far as the buffer goes, and holds what has not ended.
+pub fn fill_lines(town: OpenTables<'_>, piece: &[u8], held: &mut [u8], out: &mut [u8]) -> Filled
+    requires { Lending (given_open town) held.old out.old }
+    ensures { Passes (fill (length out.old) (lent_open town).entry (held_in held.old) piece.now) (lent_open town) piece.now held.new out.old out.new result }
+{
+    let OpenTables {
+        head,
+        zones,
+        cars,
+        spots,
+        starts,
+        entries,
+        rosters,
+        tallies,
+    } = town;
+    let mut at = 0;
+    let mut many = held[81] as usize;
+    let mut wrote = 0;
+    // No `for`: a turn goes on where the line that it takes has ended.
+    while goes_on(piece.len() - at, out.len() - wrote) {
+        let taken = line::take_line(piece, at, held, many);
+        let bytes = taken.bytes;
+        let town = OpenTables {
+            head: &mut *head,
+            zones: &mut *zones,
+            cars: &mut *cars,
+            spots: &mut *spots,
+            starts: &mut *starts,
+            entries: &mut *entries,
+            rosters: &mut *rosters,
+            tallies: &mut *tallies,
+        };
+        wrote += answer_line(town, taken.whole, &held[..bytes], &mut out[wrote..]);
+        at = taken.next;
+        many = taken.held;
+    }
+    keep_held(held, many);
+    Filled { read: at, wrote }
+}
+
+// Answers what is held, where that is anything: the last line may lack its feed.
+pub fn fill_last(town: OpenTables<'_>, held: &mut [u8], out: &mut [u8]) -> Filled
+    requires { Lending (given_open town) held.old out.old }
+    ensures { Passes (finish (lent_open town).entry (held_in held.old)) (lent_open town) [] held.new out.old out.new result }
+{
+    let OpenTables {
+        head,
+        zones,
+        cars,
+        spots,
+        starts,
+        entries,
+        rosters,
+        tallies,
+    } = town;
+    let many = held[81] as usize;
+    let some = many > 0;
+    let town = OpenTables {
+        head,
+        zones,
+        cars,
+        spots,
+        starts,
+        entries,
+        rosters,
+        tallies,
+    };
+    let wrote = answer_line(town, some, &held[..many], out);
     keep_held(held, 0);
-    Filling::Done(0, wrote)
+    Filled { read: 0, wrote }
 }

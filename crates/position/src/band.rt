@@ -15,6 +15,13 @@ pub struct Band {
     pub wall: f32,
 }
 
+// Those of a rectangle's columns, and of its rows.
+#[derive(Clone, Copy)]
+pub struct Bands {
+    pub columns: Band,
+    pub rows: Band,
+}
+
 // The w cells from a on, on a side of a town. Where they reach the wall, it is theirs; else `wall` is
 // `low` again.
 pub fn band_of(a: u32, w: u32, side: u32) -> Band
@@ -38,20 +45,16 @@ pub fn band_of(a: u32, w: u32, side: u32) -> Band
 }
 
 // The columns and the rows of a rectangle in a town.
-pub fn columns_of(s: Shape, r: Rect) -> Band
+pub fn bands_of(s: Shape, r: Rect) -> Bands
     requires allowed { Allowed s }
     requires fits { Fits s r }
-    ensures { result ≡ columns_of s r }
+    ensures columns { result.columns ≡ columns_of s r }
+    ensures rows { result.rows ≡ rows_of s r }
 {
-    band_of(r.a, r.w, s.width())
-}
-
-pub fn rows_of(s: Shape, r: Rect) -> Band
-    requires allowed { Allowed s }
-    requires fits { Fits s r }
-    ensures { result ≡ rows_of s r }
-{
-    band_of(r.b, r.h, s.height())
+    Bands {
+        columns: band_of(r.a, r.w, s.width()),
+        rows: band_of(r.b, r.h, s.height()),
+    }
 }
 
 // Whether a float is one of a band.
@@ -61,9 +64,9 @@ pub fn in_band(b: Band, x: f32) -> bool
     (b.low <= x) & ((x < b.end) | (x == b.wall))
 }
 
-// Whether a position's floats are of two bands.
-pub fn in_bands(columns: Band, rows: Band, p: Position) -> bool
-    ensures { result ≡ in_bands columns rows p }
+// Whether a position's floats are of both.
+pub fn in_bands(bands: Bands, p: Position) -> bool
+    ensures { result ≡ in_bands bands.columns bands.rows p }
 {
-    in_band(columns, p.x) & in_band(rows, p.y)
+    in_band(bands.columns, p.x) & in_band(bands.rows, p.y)
 }

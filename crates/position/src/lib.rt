@@ -10,9 +10,9 @@ ghost use Rattle.std.specs.Float.Ieee.{of_bits};
 ghost use Rattle.position.specs.Cell.{fraction, whole, cell_in};
 ghost use Rattle.position.specs.Spots.{coordinate_on, spot_on, Side, Down};
 
-pub use band::{Band, columns_of, in_bands, rows_of};
+pub use band::{Band, Bands, bands_of, in_bands};
 use band::{band_of, in_band};
-use squares::Shape;
+use squares::{Cell, Shape};
 
 // Two coordinates kept together: x counts from the west wall, y from the south wall.
 #[derive(Clone, Copy)]
@@ -21,36 +21,18 @@ pub struct Position {
     pub y: f32,
 }
 
-// A coordinate is off the map, or in a cell.
-#[derive(Clone, Copy)]
-pub enum Coordinate {
-    Off,
-    Cell(u32),
-}
-
-// A position is off the map, or in a column and a row.
-#[derive(Clone, Copy)]
-pub enum Spot {
-    Off,
-    Cell(u32, u32),
-}
-
-// The column and the row of a position on the map of a town.
-pub fn locate(s: Shape, p: Position) -> Spot
+// The cell of a position on the map of a town.
+pub fn locate(s: Shape, p: Position) -> Option<Cell>
     ensures { result ≡ spot_on s p }
 {
     if !s.allowed() {
-        return Spot::Off;
+        return None;
     }
     let width = s.width();
     let height = s.height();
-    let Coordinate::Cell(column) = cell_of(p.x, width) else {
-        return Spot::Off;
-    };
-    let Coordinate::Cell(row) = cell_of(p.y, height) else {
-        return Spot::Off;
-    };
-    Spot::Cell(column, row)
+    let x = cell_of(p.x, width)?;
+    let y = cell_of(p.y, height)?;
+    Some(Cell { x, y })
 }
 
 // The float with these bits. A NaN has no bits of its own: all of their patterns give the one NaN.
@@ -64,14 +46,14 @@ pub fn float_of(bits: u32) -> f32
 }
 
 // The cell of any float, on a side of a town: off the map a NaN, what is below 0 and what is past the wall.
-pub fn cell_of(x: f32, side: u32) -> Coordinate
+pub fn cell_of(x: f32, side: u32) -> Option<u32>
     requires { Side side }
     ensures { result ≡ coordinate_on side x }
 {
     if !in_band(band_of(0, side, side), x) {
-        return Coordinate::Off;
+        return None;
     }
-    Coordinate::Cell(cell_in(f32::to_bits(x) % 0x8000_0000, side))
+    Some(cell_in(f32::to_bits(x) % 0x8000_0000, side))
 }
 
 // The cell of the number with these bits, which is at most 256, its sign bit clear: its floor, and at

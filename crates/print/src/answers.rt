@@ -7,7 +7,7 @@ fn put_byte(out: &mut [u8], at: usize, byte: u8) -> usize
     requires { at ≤ 4096 }
     ensures { Puts out.old out.new at result (byte ∷ []) 1 }
 {
-    order::store_byte(out, at, byte);
+    order::store(out, at, byte);
     at + 1
 }
 
@@ -39,10 +39,8 @@ fn put_others(out: &mut [u8], at: usize, list: &[u32]) -> usize
     ensures { Puts out.old out.new at result (followed list.now) (11 * length list.now) }
 {
     let mut next = at;
-    let mut i = 0;
-    while i < list.len() {
-        next = put_number(out, next, b',', list[i]);
-        i += 1;
+    for n in list {
+        next = put_number(out, next, b',', *n);
     }
     next
 }
@@ -53,11 +51,13 @@ fn put_list(out: &mut [u8], at: usize, list: &[u32]) -> usize
     requires list_len_bound { length list.now ≤ 64 }
     ensures { Puts out.old out.new at result (listed list.now) (1 + 11 * length list.now) }
 {
-    if list.len() == 0 {
-        return put_byte(out, at, b'-');
+    match list {
+        [] => put_byte(out, at, b'-'),
+        [first, others @ ..] => {
+            let next = put_text(out, at, *first);
+            put_others(out, next, others)
+        }
     }
-    let next = put_text(out, at, list[0]);
-    put_others(out, next, &list[1..])
 }
 
 // A tab and the members of a list.
@@ -69,6 +69,8 @@ fn put_members(out: &mut [u8], at: usize, list: &[u32]) -> usize
     let next = put_byte(out, at, b'\t');
     put_list(out, next, list)
 }
+
+// The four kinds of answer differ in their fields: one function for all would need a list of fields, and be no plainer.
 
 // A letter and one number: a refusal, or 0 where nothing more is answered.
 pub fn write_number(out: &mut [u8], letter: u8, n: u32) -> usize

@@ -2,7 +2,8 @@
 use Rattle.std.specs.Prelude.{ℕ, ◌≡◌, ◌⊎◌, Bool, true, false, List, [], ◌∷◌}
 use denote.Triple.Both.{Both}
 use Rattle.squares.specs.Refusals.{Bar, refuse}
-use Rattle.model.specs.Model.{Opening, Call, Event, change, Lengths, Gap, shut, gap, verdict, Meaning, meaning, barred, refused, outcome}
+use Rattle.model.specs.Model.{Call, Event, change, Lengths, Gap, shut, gap, verdict, Meaning, meaning, barred, refused, outcome}
+use Rattle.model.specs.declared.opening.Opening.{Opening}
 use Rattle.tables.specs.Tables.{Tables, town_of}
 use Rattle.tables.specs.Check.{long, sized}
 use Rattle.tables.specs.Sound.{Sound}

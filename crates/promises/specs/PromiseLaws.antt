@@ -1,8 +1,11 @@
 -- Laws of the promise, each once, whatever the call: how it is kept, that it allows one outcome, and that there is one.
 use Rattle.std.specs.Prelude.{ℕ, zero, suc, ◌≡◌, refl, ◌⊎◌, Bool, true, false, List, [], ◌∷◌}
 use Rattle.std.proofs.Common.{ap, sym, subst, ◌∙◌, inl, inr, arith}
-use Rattle.squares.specs.Refusals.{Bar, unless, first, Answer, refuse, accept, Result, refusing, giving, result}
-use Rattle.squares.specs.RefusalLaws.{by-refusal, before, past}
+use Rattle.std.specs.declared.result.Result.{Result as Told}
+use Rattle.std.specs.declared.result.Result.TheVariants.{Ok, Err}
+use Rattle.squares.specs.declared.refusal.Refusal.{Refusal}
+use Rattle.squares.specs.Refusals.{number_of, refused_by, Bar, unless, first, Answer, refuse, accept, Result, refusing, giving, result}
+use Rattle.squares.specs.RefusalLaws.{some-number, refused-by, by-refusal, before, past}
 use Rattle.model.specs.Answers.{Values}
 use Rattle.model.specs.Model.{Call, Event, change_of, change_by, change, Gap, shut, gap, verdict, refusal, refused, outcome}
 use Rattle.model.specs.ModelLaws.{checks-numbered, steady}
@@ -63,6 +66,10 @@ module _ (t : Tables) (call : Call) (left : Result Values) where
     passes = λ g. absurd (f (q ∙ g));
     does = λ g. absurd (f (q ∙ g));
   }
+
+  -- barred by what answers a refusal
+  pub keeps-by : {A : Type 0} {answer : Told A Refusal} {r : Refusal} → refused_by answer ≡ bars t call → answer ≡ Err r → left ≡ refusing (number_of r) (means t call).writes → Keeps (both t t) e
+  keeps-by {r = r} h q w = keeps-refused (number_of r) (some-number r) (refused-by h q) w
 
   -- refused by a late number
   pub keeps-late : (n : ℕ) → bars t call ≡ 0 → Named (suc n) (means t call).late → left ≡ refusing (suc n) (means t call).writes → ((sound : Bool) → Trusts (means t call).trusts sound t → first (means t call).late ≡ suc n) → Keeps (both t t) e

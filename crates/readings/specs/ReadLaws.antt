@@ -6,13 +6,10 @@ use Rattle.order.specs.Order.{upto, over}
 use Rattle.order.specs.Order.{Wrote}
 use Rattle.order.specs.BufferLaws.{wrote-over}
 use Rattle.order.specs.KeepLaws.{length-keep, length-span}
+use Rattle.std.specs.declared.result.Result.TheVariants.{Ok}
 use Rattle.squares.specs.Refusals.{first, giving}
 use Rattle.squares.specs.RefusalLaws.{clear}
-use Rattle.model.specs.declared.answers.WhereIs.{WhereIs}
-use Rattle.model.specs.declared.answers.RosterOf.{RosterOf}
-use Rattle.model.specs.declared.answers.CountOf.{CountOf}
-use Rattle.model.specs.declared.answers.HolderOf.{HolderOf}
-use Rattle.model.specs.Answers.{numbers, spot, standing_is, roster_is}
+use Rattle.model.specs.Answers.{numbers, spot, standing_is, count_is}
 use Rattle.model.specs.Model.{ask_where, ask_roster, ask_count, ask_holder, holds_car, roster, meaning}
 use Rattle.tables.specs.Tables.{Tables, tally, zone_room, car_room, placed, spot_of, town_of, roster_has}
 use Rattle.tables.specs.Slots.{standing_in}
@@ -43,7 +40,7 @@ placed-there t c none =
     let h = clear (means t (ask_where c)).checks refl none in
     record { none = none; size = sized→ t h.0; car = ltb-true c (car_room t) h.1.0; on-map = sym (placed-known t c) ∙ h.1.1.0 }
 
-pub where-kept : {t : Tables} {c : ℕ} → Placed t c → Keeps (both t t) (where_told c (WhereIs.At (spot_of t c)))
+pub where-kept : {t : Tables} {c : ℕ} → Placed t c → Keeps (both t t) (where_told c (Ok (spot_of t c)))
 unfolding meaning first
 where-kept {t} {c} ok = keeps-done t (ask_where c) _ t (spot (spot_of t c)) ok.none refl (λ any trust. (refl, (rw (car-in t c ok.on-map), refl)))
 
@@ -63,7 +60,7 @@ standing t z b none =
 
 module _ {t : Tables} {z : ℕ} {b : List ℕ} (ok : Standing t z b) where
   -- the row is the roster, and it fits
-  pub roster-kept : {b' : List ℕ} {n : ℕ} → Wrote b b' 0 n (row t.derived.rosters (z * car_room t) (car_room t)) → Keeps (both t t) (event (ask_roster z b) (b' ∷ []) (roster_is (RosterOf.Cars n)))
+  pub roster-kept : {b' : List ℕ} {n : ℕ} → Wrote b b' 0 n (row t.derived.rosters (z * car_room t) (car_room t)) → Keeps (both t t) (event (ask_roster z b) (b' ∷ []) (count_is (Ok n)))
   unfolding meaning first roster_has
   roster-kept {b'} {n} w = keeps-done t (ask_roster z b) _ t (numbers (n ∷ [])) ok.none refl (λ any sound. (refl, (rw (count sound, written sound), refl)))
     where
@@ -79,13 +76,13 @@ module _ {t : Tables} {z : ℕ} {b : List ℕ} (ok : Standing t z b) where
 -- ---- count
 
 -- the stored number is the roster's length
-pub count_kept : {t : Tables} {z : ℕ} → There t z → Keeps (both t t) (count_told z (CountOf.Cars (get_or t.derived.tallies (z * tally) 0)))
+pub count_kept : {t : Tables} {z : ℕ} → There t z → Keeps (both t t) (count_told z (Ok (get_or t.derived.tallies (z * tally) 0)))
 unfolding meaning first
 count_kept {t} {z} ok = keeps-done t (ask_count z) _ t (numbers (get_or t.derived.tallies (z * tally) 0 ∷ [])) ok.none refl (λ any sound. (refl, (rw (count-sound t sound z ok.zone), refl)))
 
 -- ---- holder
 
 -- the stored numbers are the teams' and the holder
-pub holder-kept : {t : Tables} {z : ℕ} → There t z → Keeps (both t t) (holder_told z (HolderOf.Held (standing_in t.derived.tallies z)))
+pub holder-kept : {t : Tables} {z : ℕ} → There t z → Keeps (both t t) (holder_told z (Ok (standing_in t.derived.tallies z)))
 unfolding meaning first
 holder-kept {t} {z} ok = keeps-done t (ask_holder z) _ t (numbers (standing_is (standing_in t.derived.tallies z))) ok.none refl (λ any sound. (refl, (ap (λ (told : List ℕ). giving [] (numbers told)) (standing-sound t sound z ok.zone), refl)))

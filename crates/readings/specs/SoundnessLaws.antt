@@ -2,10 +2,11 @@
 use Rattle.std.specs.Prelude.{◌≡◌, Bool, true, false, [], ◌∷◌}
 use Rattle.std.proofs.Math.Path.{refl}
 use Rattle.std.proofs.Common.{sym, ◌∙◌, arith}
+use Rattle.std.specs.declared.result.Result.TheVariants.{Err}
 use Rattle.order.specs.Sums.{bit}
+use Rattle.squares.specs.declared.refusal.Refusal.{Refusal}
 use Rattle.squares.specs.Refusals.{first, accept}
 use Rattle.squares.specs.RefusalLaws.{stops}
-use Rattle.model.specs.declared.answers.SoundnessOf.{SoundnessOf}
 use Rattle.model.specs.Answers.{numbers}
 use Rattle.model.specs.Model.{ask_soundness, verdict, meaning}
 use Rattle.tables.specs.Tables.{Tables}
@@ -19,7 +20,7 @@ use Rattle.promises.specs.Events.{event, soundness_told}
 use Rattle.promises.specs.PromiseLaws.{keeps-refused, keeps-done}
 
 module _ (t : Tables) where
-  pub soundness-refused : sized t ≡ false → Keeps (both t t) (soundness_told (SoundnessOf.Refused 3))
+  pub soundness-refused : sized t ≡ false → Keeps (both t t) (soundness_told (Err Refusal.Tables))
   unfolding meaning
   soundness-refused e = keeps-refused t ask_soundness _ 3 (λ (z : 3 ≡ 0). omega arith) (stops 0 (means t ask_soundness).checks e) refl
 

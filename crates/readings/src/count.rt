@@ -1,29 +1,15 @@
 // How many cars are in a zone.
-ghost use Rattle.tables.specs.Lent.{lent, as_read};
+ghost use Rattle.tables.specs.Lent.{lent_read};
 ghost use Rattle.promises.specs.Promise.{Keeps};
 ghost use Rattle.promises.specs.Events.{count_told};
 
-use model::CountOf;
+use squares::Refusal;
+use tables::ReadTables;
 
 // The number of cars in a zone, as stored.
-pub fn count_of_zone(
-    head: &[u32],
-    zones: &[u32],
-    cars: &[u32],
-    spots: &[f32],
-    starts: &[u32],
-    entries: &[u32],
-    rosters: &[u8],
-    tallies: &[u32],
-    zone: u32,
-) -> CountOf
-    ensures { Keeps (lent (as_read head) (as_read zones) (as_read cars) (as_read spots) (as_read starts) (as_read entries) (as_read rosters) (as_read tallies)) (count_told zone result) }
+pub fn count_of_zone(town: ReadTables<'_>, zone: u32) -> Result<u32, Refusal>
+    ensures { Keeps (lent_read town) (count_told zone result) }
 {
-    let refusal = promises::refuse_zone(
-        head, zones, cars, spots, starts, entries, rosters, tallies, zone,
-    );
-    if refusal != 0 {
-        return CountOf::Refused(refusal);
-    }
-    CountOf::Cars(tables::count_in(tallies, zone as usize))
+    promises::refuse_zone(town, zone)?;
+    Ok(tables::count_in(town.tallies, zone as usize))
 }

@@ -2,6 +2,7 @@
 use Rattle.std.specs.Prelude.{ℕ, zero, suc, ◌≤◌, refl, List, [], ◌∷◌, ◌++◌, length, take, drop}
 use Rattle.std.proofs.Math.Path.{◌≡◌, ap}
 use Rattle.std.proofs.Common.{sym, subst, ◌∙◌, arith, length-take, length-take-le}
+use Rattle.std.specs.declared.result.Result.TheVariants.{Ok, Err}
 use Rattle.std.proofs.Math.Bool.{true}
 use Rattle.std.proofs.Math.Option.{none, some}
 use denote.Triple.Both.{Both}
@@ -9,10 +10,12 @@ use Rattle.order.specs.Order.{over, Wrote}
 use Rattle.order.specs.BufferLaws.{count-front}
 use Rattle.squares.specs.Shape.{shape}
 use Rattle.squares.specs.ShapeLaws.{allowed→}
-use Rattle.squares.specs.Refusals.{Answer, refuse, Result, result}
-use Rattle.squares.specs.RefusalLaws.{stops}
+use Rattle.squares.specs.declared.refusal.Refusal.{Refusal}
+use Rattle.squares.specs.Refusals.{number_of, Answer, refuse, Result, result}
+use Rattle.squares.specs.RefusalLaws.{stops, some-number}
 use Rattle.model.specs.Answers.{Values, numbers}
-use Rattle.model.specs.Model.{Opening, Town, Call, opening, Event, change, meaning}
+use Rattle.model.specs.Model.{Town, Call, opening, Event, change, meaning}
+use Rattle.model.specs.declared.opening.Opening.{Opening}
 use Rattle.tables.specs.Tables.{Tables, town_of}
 use Rattle.tables.specs.Sizes.{Long}
 use Rattle.tables.specs.CheckLaws.{→long}
@@ -24,7 +27,6 @@ use Rattle.line.specs.declared.records.Record.TheVariants.{Open}
 use Rattle.print.specs.Text.{number, answer, Answers}
 use Rattle.texts.specs.Texts.{Letter, text_of}
 use Rattle.season.specs.Output.{Line, opening_of, call_of, outcome_of}
-use Rattle.room.specs.declared.room.RoomFor.TheVariants.{Refused, Starts}
 use Rattle.room.specs.Room.{places_of, with_starts, part, into, Roomed, Ready}
 use Rattle.room.specs.Leaves.{open_refusal, OpenRoom, Small, Tamed}
 use Rattle.room.specs.RoomLaws.{squares-64, take-shown, put_back, part_sound}
@@ -97,13 +99,17 @@ module _ (k P Q : ℕ) where
   unfolding meaning
   opens-so m n q = ap opens q
 
-  pub open-refused : {t : Tables} {r : ℕ} {b b' : List ℕ} (n : ℕ) → OpenRoom k P Q (Refused n) → Answers b b' r (text_of Letter.M (refuse n) []) → Replies (both t t) (call_of (Open k P Q)) b b' r
-  open-refused zero h w = absurd (omega (arith, h.1))
-  open-refused {t} (suc n) h w =
-      let so = opens-so (town_of t) (suc n) h.0 in
+  -- an open that leaves what refuses it
+  refused-so : {t : Tables} {r : ℕ} {b b' : List ℕ} (n : ℕ) → (n ≡ 0 → ⊥) → n ≡ open_refusal k P Q → Answers b b' r (text_of Letter.M (refuse n) []) → Replies (both t t) (call_of (Open k P Q)) b b' r
+  refused-so zero f h w = absurd (f refl)
+  refused-so {t} (suc n) f h w =
+      let so = opens-so (town_of t) (suc n) h in
       replies (λ ready. (so, ap (λ (x : Event). step (change x) (part t)) so)) (λ ready. refl) (read_back t.derived.starts (places_of t.records.head)) w
 
-  module _ {t : Tables} (room : Roomed t) {m : ℕ} (many : OpenRoom k P Q (Starts m)) where
+  pub open-refused : {t : Tables} {r : ℕ} {b b' : List ℕ} (n : Refusal) → OpenRoom k P Q (Err n) → Answers b b' r (text_of Letter.M (refuse (number_of n)) []) → Replies (both t t) (call_of (Open k P Q)) b b' r
+  open-refused n h w = refused-so (number_of n) (some-number n) h w
+
+  module _ {t : Tables} (room : Roomed t) {m : ℕ} (many : OpenRoom k P Q (Ok m)) where
     pub open-within : m ≤ length t.derived.starts
     open-within = let h = within k P Q many.0 in omega (arith, squares-64 (shape k P Q) (allowed→ (shape k P Q) h.shaped) h.wide h.high, many.1, room.starts)
 

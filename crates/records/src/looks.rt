@@ -1,41 +1,24 @@
 // The records that only read the tables: S and R.
-ghost use Rattle.tables.specs.Lent.{lent, given, as_read};
+ghost use Rattle.tables.specs.Lent.{given_read, lent_read};
 ghost use Rattle.season.specs.Output.{call_of};
 ghost use Rattle.room.specs.Room.{Roomed};
 ghost use Rattle.records.specs.Replies.{Replies};
 ghost use Rattle.line.specs.declared.records.Record.TheVariants.{Search, Roster};
 
 use room::{places_in, position_of, tame_roster};
+use tables::ReadTables;
 use texts::{write_roster, write_searched};
 
 // S: the zones that hold a position.
-pub fn search_record(
-    head: &[u32],
-    zones: &[u32],
-    cars: &[u32],
-    spots: &[f32],
-    starts: &[u32],
-    entries: &[u32],
-    rosters: &[u8],
-    tallies: &[u32],
-    x: u32,
-    y: u32,
-    out: &mut [u8],
-) -> usize
-    requires { Roomed (given head.now zones.now cars.now spots.now starts.now entries.now rosters.now tallies.now) }
-    ensures { Replies (lent (as_read head) (as_read zones) (as_read cars) (as_read spots) (as_read starts) (as_read entries) (as_read rosters) (as_read tallies)) (call_of (Search x y)) out.old out.new result }
+pub fn search_record(town: ReadTables<'_>, x: u32, y: u32, out: &mut [u8]) -> usize
+    requires { Roomed (given_read town) }
+    ensures { Replies (lent_read town) (call_of (Search x y)) out.old out.new result }
 {
-    let many = places_in(head, starts);
+    let many = places_in(town.head, town.starts);
+    let starts = &town.starts[..many];
     let mut found = [0u32; 16];
     let answer = readings::search_zones(
-        head,
-        zones,
-        cars,
-        spots,
-        &starts[..many],
-        entries,
-        rosters,
-        tallies,
+        ReadTables { starts, ..town },
         position_of(x, y),
         &mut found,
     );
@@ -43,34 +26,13 @@ pub fn search_record(
 }
 
 // R: the cars of a zone.
-pub fn roster_record(
-    head: &[u32],
-    zones: &[u32],
-    cars: &[u32],
-    spots: &[f32],
-    starts: &[u32],
-    entries: &[u32],
-    rosters: &[u8],
-    tallies: &[u32],
-    zone: u32,
-    out: &mut [u8],
-) -> usize
-    requires { Roomed (given head.now zones.now cars.now spots.now starts.now entries.now rosters.now tallies.now) }
-    ensures { Replies (lent (as_read head) (as_read zones) (as_read cars) (as_read spots) (as_read starts) (as_read entries) (as_read rosters) (as_read tallies)) (call_of (Roster zone)) out.old out.new result }
+pub fn roster_record(town: ReadTables<'_>, zone: u32, out: &mut [u8]) -> usize
+    requires { Roomed (given_read town) }
+    ensures { Replies (lent_read town) (call_of (Roster zone)) out.old out.new result }
 {
-    let many = places_in(head, starts);
+    let many = places_in(town.head, town.starts);
+    let starts = &town.starts[..many];
     let mut inside = [0u32; 64];
-    let answer = readings::roster_of_zone(
-        head,
-        zones,
-        cars,
-        spots,
-        &starts[..many],
-        entries,
-        rosters,
-        tallies,
-        zone,
-        &mut inside,
-    );
+    let answer = readings::roster_of_zone(ReadTables { starts, ..town }, zone, &mut inside);
     write_roster(tame_roster(answer), &inside, out)
 }

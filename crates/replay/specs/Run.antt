@@ -1,13 +1,13 @@
 -- Calls one after another from the program's own start: what was read, and what was put into the buffers.
 use Rattle.std.specs.Prelude.{ℕ, ◌*◌, List, [], ◌∷◌, ◌++◌, length, take, replicate}
+use Rattle.std.specs.declared.result.Result.TheVariants.{Ok}
 use Rattle.std.specs.Float.{binary32}
 use Rattle.std.specs.Float.Ieee.{of_bits}
 use Rattle.tables.specs.Tables.{Tables, tables, tally}
 use Rattle.tables.specs.Lent.{both}
 use Rattle.season.specs.Output.{Line}
 use Rattle.records.specs.Replies.{tables_after}
-use Rattle.pieces.specs.declared.pieces.Filling.{Filling}
-use Rattle.pieces.specs.Pieces.{held_in, holding, fill, Fills}
+use Rattle.pieces.specs.Pieces.{held_in, holding, fill, counts, Fills}
 
 -- the program's tables at the start: every number is 0
 abbrev pub start : Tables
@@ -30,4 +30,4 @@ after_lines t (line ∷ lines) = after_lines (tables_after t line) lines
 -- the bytes that were read, those that were put into the buffers, the tables and the bytes held then. Pieces and buffers are any
 pub data Ran : List ℕ → List ℕ → Tables → List ℕ → Type 0 where
   begun : Ran [] [] start (holding [])
-  goes : {input text piece b b' o o' : List ℕ} {t t' : Tables} {read wrote : ℕ} → Ran input text t b → Fills (fill (length o) t (held_in b) piece) (both t t') piece b b' o o' (Filling.Done read wrote) → Ran (input ++ take read piece) (text ++ take wrote o') t' b'
+  goes : {input text piece b b' o o' : List ℕ} {t t' : Tables} {read wrote : ℕ} → Ran input text t b → Fills (fill (length o) t (held_in b) piece) (both t t') piece b b' o o' (Ok (counts read wrote)) → Ran (input ++ take read piece) (text ++ take wrote o') t' b'

@@ -1,5 +1,7 @@
 -- Laws of calls one after another: what was read is lines and a part of one, and the lines are answered one after another.
 use Rattle.std.specs.Prelude.{ℕ, zero, suc, ◌+◌, ◌*◌, ◌-◌, ◌≤◌, ◌≡◌, refl, Bool, true, false, cond, List, [], ◌∷◌, ◌++◌, map, eqb, ltb, length, get_or, take, replicate}
+use Rattle.std.specs.declared.result.Result.TheVariants.{Ok, Err}
+use Rattle.std.specs.declared.result.Result.{Result}
 use Rattle.std.proofs.Common.{ap, ap₂, sym, subst, ◌∙◌, append_assoc, append-nil, arith, length-append, take_at}
 use Rattle.std.proofs.Math.Path.{fun_ext}
 use Rattle.std.proofs.Math.Option.{Option, none, some}
@@ -10,6 +12,7 @@ use Rattle.order.specs.TestLaws.{true-not-false}
 use Rattle.order.specs.BufferLaws.{take-over}
 use Rattle.squares.specs.declared.shape.Rect.{Rect}
 use Rattle.squares.specs.Shape.{allowed}
+use Rattle.squares.specs.declared.refusal.Refusal.{Refusal}
 use Rattle.squares.specs.Refusals.{first}
 use Rattle.squares.specs.RefusalLaws.{by-refusal}
 use Rattle.model.specs.Model.{Car, Town, nowhere}
@@ -21,8 +24,8 @@ use Rattle.line.specs.LineLaws.{feed-append, lines-mean, hold-few}
 use Rattle.season.specs.Output.{Line, call_of, line_of, reply, answers}
 use Rattle.room.specs.Room.{Ready}
 use Rattle.records.specs.Replies.{tables_after}
-use Rattle.pieces.specs.declared.pieces.Filling.{Filling}
-use Rattle.pieces.specs.Pieces.{held_in, holding, Filled, writing, fill, finish, checks, Fills}
+use Rattle.pieces.specs.declared.pieces.Filled.{Filled as Counts}
+use Rattle.pieces.specs.Pieces.{held_in, holding, Filled, writing, fill, finish, checks, counts, Fills}
 use Rattle.replay.specs.Run.{start, after_lines, Ran}
 use Rattle.records.specs.AfterLaws.{ready-after, town-after}
 use Rattle.pieces.specs.FillLaws.{stopped}
@@ -155,6 +158,15 @@ ready-start = record {
 
 -- ---- calls one after another
 
+-- how much was read, and written
+abbrev pub read_in : Result Counts Refusal → ℕ
+read_in (Ok said) = said.read
+read_in (Err r) = 0
+
+abbrev pub wrote_in : Result Counts Refusal → ℕ
+wrote_in (Ok said) = said.wrote
+wrote_in (Err r) = 0
+
 -- what was read is answered, up to the bytes that are held
 pub record So (input text : List ℕ) (t : Tables) (b : List ℕ) : Type 0 where
   pub said : text ≡ replies_of start (feed [] input).ended
@@ -176,19 +188,17 @@ module _ {input text : List ℕ} {t : Tables} {b : List ℕ} (so : So input text
   so-tables ls = ap (λ (u : Tables). tables_of u ls) so.tables ∙ sym (tables-append start (feed [] input).ended ls)
 
   -- a call that was not refused
-  module _ {f : Filled} {piece b' o o' : List ℕ} {t' : Tables} {read wrote : ℕ} (fills : Fills f (both t t') piece b b' o o' (Filling.Done read wrote)) where
+  module _ {f : Filled} {piece b' o o' : List ℕ} {t' : Tables} {read wrote : ℕ} (fills : Fills f (both t t') piece b b' o o' (Ok (counts read wrote))) where
     passed : first (checks t b o) ≡ 0
-    passed = by-refusal (first (checks t b o)) (λ (e : first (checks t b o) ≡ 0). e) (λ (g : first (checks t b o) ≡ 0 → ⊥). let e = (fills.refuses g).0 in let z : ◌≡◌ {A = ℕ} 0 1 = cc in absurd (omega arith))
+    passed = by-refusal (first (checks t b o)) (λ (e : first (checks t b o) ≡ 0). e) (λ (g : first (checks t b o) ≡ 0 → ⊥). absurd (g (sym (fills.refuses g).0)))
 
     pub call-read : read ≡ length piece - length f.rest
-    call-read = let e = (fills.does passed so-ready).0 in cc
+    call-read = ap read_in (fills.does passed so-ready).0
 
     pub call-text : take wrote o' ≡ f.text
     call-text =
         let d = fills.does passed so-ready in
-        let e = d.0 in
-        let n : wrote ≡ length f.text = cc in
-        ap₂ take n d.3 ∙ take-over f.text o
+        ap₂ take (ap wrote_in d.0) d.3 ∙ take-over f.text o
 
     pub call-tables : t' ≡ f.tables
     call-tables = (fills.does passed so-ready).1
@@ -197,7 +207,7 @@ module _ {input text : List ℕ} {t : Tables} {b : List ℕ} (so : So input text
     call-held = (fills.does passed so-ready).2
 
   -- a piece
-  pub so-goes : {piece b' o o' : List ℕ} {t' : Tables} {read wrote : ℕ} → Fills (fill (length o) t (held_in b) piece) (both t t') piece b b' o o' (Filling.Done read wrote) → So (input ++ take read piece) (text ++ take wrote o') t' b'
+  pub so-goes : {piece b' o o' : List ℕ} {t' : Tables} {read wrote : ℕ} → Fills (fill (length o) t (held_in b) piece) (both t t') piece b b' o o' (Ok (counts read wrote)) → So (input ++ take read piece) (text ++ take wrote o') t' b'
   so-goes {piece} {b'} {o} {o'} {t'} {read} {wrote} fills =
       let f = fill (length o) t (held_in b) piece in
       let r = fill-seen (length o) so-ready (held_in b) piece in
@@ -239,7 +249,7 @@ lines-ask input = split-map (ending (feed [] input)) ∙ ap (map call_of) (lines
     split-map [] = refl
     split-map (l ∷ ls) = ap (λ (rest : List Line). line_of l ∷ rest) (split-map ls)
 
-module _ {input text : List ℕ} {t : Tables} {b : List ℕ} (so : So input text t b) {b' o o' : List ℕ} {t' : Tables} {read wrote : ℕ} (fills : Fills (finish t (held_in b)) (both t t') [] b b' o o' (Filling.Done read wrote)) where
+module _ {input text : List ℕ} {t : Tables} {b : List ℕ} (so : So input text t b) {b' o o' : List ℕ} {t' : Tables} {read wrote : ℕ} (fills : Fills (finish t (held_in b)) (both t t') [] b b' o o' (Ok (counts read wrote))) where
   ended : (feed [] input).ended ++ last (held_in b) ≡ ending (feed [] input)
   ended = ap (λ (h : List ℕ). (feed [] input).ended ++ last h) (so-held so)
 

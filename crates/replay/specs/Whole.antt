@@ -1,13 +1,13 @@
 -- However an input is cut into pieces, what is put into the buffers is the output of the whole.
 use Rattle.std.specs.Prelude.{ℕ, ◌≡◌, List, [], ◌++◌, map, take}
+use Rattle.std.specs.declared.result.Result.TheVariants.{Ok}
 use Rattle.std.proofs.Common.{ap, ◌∙◌}
 use Rattle.tables.specs.Tables.{Tables}
 use Rattle.tables.specs.Lent.{both}
 use Rattle.model.specs.Model.{Town, nowhere}
 use Rattle.line.specs.Lines.{lines, feed}
 use Rattle.season.specs.Output.{line_of, answers, output}
-use Rattle.pieces.specs.declared.pieces.Filling.{Filling}
-use Rattle.pieces.specs.Pieces.{held_in, holding, finish, Fills}
+use Rattle.pieces.specs.Pieces.{held_in, holding, finish, counts, Fills}
 use Rattle.replay.specs.Run.{start, after_lines, Ran}
 use Rattle.replay.specs.RunLaws.{town-start, ran-so, end-text, end-tables}
 
@@ -22,6 +22,6 @@ pub ran-held : {input text b : List ℕ} {t : Tables} → Ran input text t b →
 ran-held r = (ran-so r).held
 
 -- at the input's end
-pub whole : {input text b b' o o' : List ℕ} {t t' : Tables} {read wrote : ℕ} → Ran input text t b → Fills (finish t (held_in b)) (both t t') [] b b' o o' (Filling.Done read wrote) → (text ++ take wrote o' ≡ output input) × (t' ≡ after_lines start (map line_of (lines input)))
+pub whole : {input text b b' o o' : List ℕ} {t t' : Tables} {read wrote : ℕ} → Ran input text t b → Fills (finish t (held_in b)) (both t t') [] b b' o o' (Ok (counts read wrote)) → (text ++ take wrote o' ≡ output input) × (t' ≡ after_lines start (map line_of (lines input)))
 unfolding output
 whole r f = (end-text (ran-so r) f, end-tables (ran-so r) f)

@@ -11,15 +11,12 @@ fn sieve_codes(s: Shape, r: Rect, codes: &mut [u32]) -> usize
     ensures { Sieved s r codes.old codes.new result }
 {
     let mut kept = 0;
-    let mut i = 0;
-    while i < codes.len() {
+    for i in 0..codes.len() {
         let code = codes[i];
         codes[kept] = code;
-        i += 1;
-        if in_cut(s, r, code / 1048576, code % 1048576) {
-            continue;
+        if !in_cut(s, r, code / 1048576, code % 1048576) {
+            kept += 1;
         }
-        kept += 1;
     }
     kept
 }

@@ -1,5 +1,4 @@
 // The keys that a zone drops and those that it takes up as it rides, written to the front of the starts.
-ghost use Rattle.rides.specs.Apart.{Larger};
 ghost use Rattle.rides.specs.Changes.{ChangeRoom, Changed};
 
 use crate::apart::write_apart;
@@ -17,16 +16,6 @@ pub struct Changes {
     pub n: usize,
 }
 
-// The larger of two numbers.
-fn larger(a: usize, b: usize) -> usize
-    ensures { Larger a b result }
-{
-    if a < b {
-        return b;
-    }
-    a
-}
-
 // Writes them where the keys of both rectangles together have no room: squares of both are taken out of each list by itself,
 // and the second list is written after what is left of the first.
 fn tight_changes(s: Shape, old: Rect, new: Rect, z: u32, starts: &mut [u32]) -> Changes
@@ -35,7 +24,7 @@ fn tight_changes(s: Shape, old: Rect, new: Rect, z: u32, starts: &mut [u32]) -> 
 {
     let gone = write_apart(s, old, new, z, starts);
     let come = write_apart(s, new, old, z, &mut starts[gone..]);
-    let n = larger(cut_count(s, old), gone + cut_count(s, new));
+    let n = cut_count(s, old).max(gone + cut_count(s, new));
     Changes {
         gone,
         at: gone,

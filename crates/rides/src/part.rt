@@ -22,6 +22,7 @@ pub fn part_keys(keys: &mut [u32], n: usize, m: usize) -> Parts
     let mut come = 0;
     let mut i = 0;
     let mut j = 0;
+    // A `while`: two lists are merged, each by an index of its own, and a `for` would still count both by hand.
     while i + j < end {
         let next = n + j;
         if is_lower(keys, i, n, next, end) {

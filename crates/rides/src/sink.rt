@@ -2,20 +2,10 @@
 ghost use Rattle.std.specs.Prelude.{◌≤◌, length};
 ghost use Rattle.entries.specs.Gaps.{SlideRoom};
 ghost use Rattle.rides.specs.Blocks.{SinkRoom, Sinks};
-ghost use Rattle.rides.specs.Steps.{Goes, Next, FoundIn, Drawn};
+ghost use Rattle.rides.specs.Steps.{Next, FoundIn, Drawn};
 
+use crate::keys::Keys;
 use entries::{FREE, find_key, move_down};
-use tables::fill_words;
-
-// Whether a number is left: one that is dropped, from a up to i, or one that is taken up, from b up to j.
-fn goes_on(a: usize, i: usize, b: usize, j: usize) -> bool
-    ensures { Goes a i b j result }
-{
-    if a < i {
-        return true;
-    }
-    b < j
-}
 
 // Whether the next number that is dropped, the one at a, comes before the next that is taken up, the one at b.
 fn drops_next(gone: &[u32], come: &[u32], a: usize, i: usize, b: usize, j: usize) -> bool
@@ -23,13 +13,7 @@ fn drops_next(gone: &[u32], come: &[u32], a: usize, i: usize, b: usize, j: usize
     requires j_in_bounds { j ≤ length come.now }
     ensures { Next gone.now come.now a i b j result }
 {
-    if i <= a {
-        return false;
-    }
-    if j <= b {
-        return true;
-    }
-    gone[a] < come[b]
+    a < i && (j <= b || gone[a] < come[b])
 }
 
 // The place of a key among the entries from one place up to an end.
@@ -48,32 +32,22 @@ fn draw_in(entries: &mut [u32], from: usize, end: usize, by: usize)
 {
     move_down(entries, from, end, by);
     let left = end - by;
-    fill_words(&mut entries[left..end], FREE);
+    entries[left..end].fill(FREE);
 }
 
 // Exchanges the keys of a block: from m up to i those dropped, up to j those taken up, which are as many or fewer.
 // At a key that is not there it stops.
-pub fn sink(
-    starts: &[u32],
-    n: usize,
-    gone: &[u32],
-    come: &[u32],
-    entries: &mut [u32],
-    from: usize,
-    end: usize,
-    m: usize,
-    i: usize,
-    j: usize,
-)
-    requires { SinkRoom gone.now come.now entries.old from end m i j }
-    ensures { Sinks starts.now n gone.now come.now entries.old entries.new from end m i j }
+pub fn sink(keys: Keys, entries: &mut [u32], from: usize, end: usize, m: usize, i: usize, j: usize)
+    requires { SinkRoom keys.gone.now keys.come.now entries.old from end m i j }
+    ensures { let k = keys.entry in Sinks k.starts.now k.n k.gone.now k.come.now entries.old entries.new from end m i j }
 {
     let mut at = from;
     let mut a = m;
     let mut b = m;
-    while goes_on(a, i, b, j) {
-        if drops_next(gone, come, a, i, b, j) {
-            let place = place_in(starts, n, entries, at, end, gone[a]);
+    // A `while`: two lists are merged, each by an index of its own, and a `for` would still count both by hand.
+    while a < i || b < j {
+        if drops_next(keys.gone, keys.come, a, i, b, j) {
+            let place = place_in(keys.starts, keys.n, entries, at, end, keys.gone[a]);
             if place == end {
                 return;
             }
@@ -86,8 +60,8 @@ pub fn sink(
             return;
         }
         let by = a - b;
-        let key = come[b];
-        let place = place_in(starts, n, entries, at, end, key);
+        let key = keys.come[b];
+        let place = place_in(keys.starts, keys.n, entries, at, end, key);
         move_down(entries, at, place, by);
         entries[place - by] = key;
         at = place;

@@ -4,5 +4,5 @@
 mod room; // room.rt: the part of the starts that a town needs, a position from its bits, the room for an M
 mod tame; // tame.rt: an answer's numbers made small
 
-pub use room::{RoomFor, open_room, places_in, position_of};
+pub use room::{open_room, places_in, position_of};
 pub use tame::{tame_added, tame_roster};

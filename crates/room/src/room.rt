@@ -1,18 +1,12 @@
 // What a record needs before its call: the part of the starts that the town has, a position from its bits, the room for an M.
 ghost use Rattle.std.specs.Prelude.{◌≤◌, ◌≡◌, length, take};
+ghost use Rattle.squares.specs.Bounds.{Allowed};
 ghost use Rattle.season.specs.Output.{position_of};
 ghost use Rattle.room.specs.Room.{places_of};
-ghost use Rattle.room.specs.Leaves.{OpenRoom};
+ghost use Rattle.room.specs.Leaves.{roomy, OpenRoom};
 
 use position::Position;
-use squares::{Shape, Shaped};
-
-// The number that refuses an M, or how many starts its town needs.
-#[derive(Clone, Copy)]
-pub enum RoomFor {
-    Refused(u32),
-    Starts(usize),
-}
+use squares::{Refusal, Shape};
 
 // How many of the starts the town in head needs, or how many there are: none where no town is open.
 pub fn places_in(head: &[u32], starts: &[u32]) -> usize
@@ -20,14 +14,11 @@ pub fn places_in(head: &[u32], starts: &[u32]) -> usize
     ensures { result ≡ length (take (places_of head.now) starts.now) }
 {
     let s = tables::shape_in(head);
-    if !s.allowed() {
-        return 0;
+    if s.allowed() {
+        starts.len().min(s.squares() as usize + 1)
+    } else {
+        0
     }
-    let many = s.squares() as usize + 1;
-    if starts.len() < many {
-        return starts.len();
-    }
-    many
 }
 
 // The position with these bits.
@@ -40,19 +31,21 @@ pub fn position_of(x: u32, y: u32) -> Position
     }
 }
 
-// The room for an M: 1 refuses a shape beyond the bounds, 3 a town of more than 64 by 64.
-#[tactic(auto, using(crate::proofs::Widths::wide_refused))]
-pub fn open_room(k: u32, P: u32, Q: u32) -> RoomFor
+// Whether a town is within 64 by 64.
+fn roomy(s: Shape) -> bool
+    requires { Allowed s }
+    ensures { result ≡ roomy s }
+{
+    s.width() <= 64 && s.height() <= 64
+}
+
+// How many starts an M's town needs: 1 refuses a shape beyond the bounds, 3 a town of more than 64 by 64.
+pub fn open_room(k: u32, P: u32, Q: u32) -> Result<usize, Refusal>
     ensures { OpenRoom k P Q result }
 {
-    let Shaped::Allowed(s) = Shape::new(k, P, Q) else {
-        return RoomFor::Refused(1);
-    };
-    if 64 < s.width() {
-        return RoomFor::Refused(3);
+    let s = Shape::new(k, P, Q)?;
+    if !roomy(s) {
+        return Err(Refusal::Tables);
     }
-    if 64 < s.height() {
-        return RoomFor::Refused(3);
-    }
-    RoomFor::Starts(s.squares() as usize + 1)
+    Ok(s.squares() as usize + 1)
 }

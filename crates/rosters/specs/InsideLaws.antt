@@ -2,6 +2,7 @@
 use Rattle.std.specs.Prelude.{ℕ, suc, ◌+◌, ◌-◌, ◌*◌, ◌<◌, ◌≤◌, ◌≡◌, refl, Bool, true, false, ◌&&◌, List, map, T, Float, length, get_or}
 use Rattle.std.proofs.Math.Path.{ap, fun_ext}
 use Rattle.std.proofs.Common.{ap₂, ◌∙◌, arith, add-one}
+use Rattle.std.specs.Int.{from_bool}
 use Rattle.std.specs.Float.{nan, binary32}
 use Rattle.std.specs.Float.Ieee.{fits}
 use Rattle.std.proofs.Math.ListN.{set}
@@ -30,6 +31,11 @@ use Rattle.order.specs.SetLaws.{Setting, set-begins, set-turns, set-ends}
 pub by-bands : {s : Shape} {r : Rect} → Allowed s → Fits s r → (cars : List ℕ) (spots : List Float) → ((i : ℕ) → T (fits binary32 (get_or spots i nan))) → car_between cars spots (columns_of s r) (rows_of s r) ≡ car_within s cars spots r
 unfolding car_between car_within
 by-bands h f cars spots held = fun_ext (λ c. ap (λ (t : Bool). placed_in cars c && t) (in-rectangle h f (spot_in spots c) (held (2 * c)) (held (2 * c + 1))))
+
+-- the byte that says yes or no
+pub byte-bit : (b : Bool) → from_bool b ≡ bit b
+byte-bit true = refl
+byte-bit false = refl
 
 bit-small : (b : Bool) → bit b ≤ 1
 bit-small true = omega arith

@@ -6,8 +6,7 @@ ghost use Rattle.tables.specs.Rows.{RowThere};
 ghost use Rattle.tables.specs.Asks.{Parked};
 ghost use Rattle.rosters.specs.Ridden.{Notes, Turns, Rides, RowRidden};
 
-use crate::inside::byte_of;
-use position::{Band, columns_of, rows_of};
+use position::{Bands, bands_of};
 use squares::{Rect, Shape};
 use tables::car_between;
 
@@ -23,14 +22,11 @@ fn note(byte: u8, other: u8, c: u32, out: &mut [u32], next: usize) -> usize
     requires { next ≤ 1024 }
     ensures { Notes byte other c out.old out.new next result }
 {
-    if byte == 0 {
-        return next;
+    if byte != 0 && other == 0 {
+        order::store(out, next, c);
+        return next + 1;
     }
-    if other != 0 {
-        return next;
-    }
-    order::store(out, next, c);
-    next + 1
+    next
 }
 
 // Stores car c in one buffer where its new byte is a mark and its old one none, in the other where it is the other way round.
@@ -64,8 +60,7 @@ fn turn(
 fn ride_cars(
     cars: &[u32],
     spots: &[f32],
-    columns: Band,
-    rows: Band,
+    bands: Bands,
     row: &mut [u8],
     entered: &mut [u32],
     left: &mut [u32],
@@ -73,20 +68,17 @@ fn ride_cars(
     requires cars_len { length cars.now ≡ length row.old }
     requires spots_len { length spots.now ≡ 2 * length row.old }
     requires row_len_bound { length row.old ≤ 1024 }
-    ensures { Rides (car_between cars.now spots.now columns rows) row.old row.new entered.old entered.new left.old left.new result.entered result.left }
+    ensures { Rides (car_between cars.now spots.now bands.columns bands.rows) row.old row.new entered.old entered.new left.old left.new result.entered result.left }
 {
-    let many = row.len();
     let mut moved = CarsMoved {
         entered: 0,
         left: 0,
     };
-    let mut c = 0;
-    while c < many {
-        let byte = byte_of(car_between(cars, spots, columns, rows, c));
+    for c in 0..row.len() {
+        let byte = u8::from(car_between(cars, spots, bands, c));
         let old = row[c];
         row[c] = byte;
         moved = turn(old, byte, c, entered, left, moved);
-        c += 1;
     }
     moved
 }
@@ -113,15 +105,6 @@ pub fn ride_row(
 {
     let from = z * many as usize;
     let end = from + many as usize;
-    let columns = columns_of(s, r);
-    let rows = rows_of(s, r);
-    ride_cars(
-        cars,
-        spots,
-        columns,
-        rows,
-        &mut rosters[from..end],
-        entered,
-        left,
-    )
+    let bands = bands_of(s, r);
+    ride_cars(cars, spots, bands, &mut rosters[from..end], entered, left)
 }

@@ -4,8 +4,6 @@ ghost use Rattle.squares.specs.Shape.{most_cars};
 ghost use Rattle.tables.specs.Rows.{RowThere};
 ghost use Rattle.rosters.specs.Rosters.{row_cleared, stamped};
 
-use tables::fill_bytes;
-
 // Sets a zone's row of so many bytes to 0.
 pub fn clear_row(rosters: &mut [u8], z: usize, many: u32)
     requires { RowThere rosters.old z many }
@@ -13,7 +11,7 @@ pub fn clear_row(rosters: &mut [u8], z: usize, many: u32)
 {
     let from = z * many as usize;
     let end = from + many as usize;
-    fill_bytes(&mut rosters[from..end], 0);
+    rosters[from..end].fill(0);
 }
 
 // Where car c's byte stands in zone z's row, rows of so many bytes.
@@ -29,9 +27,7 @@ pub fn stamp_rows(rosters: &mut [u8], zones: &[u32], many: u32, c: u32, v: u8)
     requires { many ≤ most_cars }
     ensures { rosters.new ≡ stamped rosters.old zones.now many c v }
 {
-    let mut i = 0;
-    while i < zones.len() {
-        order::store_byte(rosters, byte_at(zones[i], many, c), v);
-        i += 1;
+    for z in zones {
+        order::store(rosters, byte_at(*z, many, c), v);
     }
 }

@@ -5,7 +5,8 @@ use Rattle.std.specs.Float.{binary32}
 use Rattle.std.specs.Float.Ieee.{of_bits}
 use Rattle.squares.specs.Shape.{shape, allowed, width, height}
 use Rattle.position.specs.declared.Position.{Position}
-use Rattle.model.specs.Model.{Opening, Town, nowhere, Call, opening, adding, removing, reporting, leaving, searching, ask_roster, Event, change, after, Lengths, outcome}
+use Rattle.model.specs.Model.{Town, nowhere, Call, opening, adding, removing, reporting, leaving, searching, ask_roster, Event, change, after, Lengths, outcome}
+use Rattle.model.specs.declared.opening.Opening.{Opening}
 use Rattle.line.specs.declared.records.Record.{Record}
 use Rattle.line.specs.declared.records.Record.TheVariants.{Bad, Open, Add, Remove, Report, Leave, Search, Roster}
 use Rattle.line.specs.Grammar.{meaning}

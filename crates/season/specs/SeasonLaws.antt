@@ -11,7 +11,8 @@ use Rattle.squares.specs.Shape.{allowed}
 use Rattle.squares.specs.Refusals.{first}
 use Rattle.position.specs.declared.Position.{Position}
 use Rattle.position.specs.Answer.{on_town}
-use Rattle.model.specs.Model.{Opening, Car, Town, nowhere, there, holds_spot, holds_car, roster, zones_at, zones_of, zones_entered, zones_left, teamed}
+use Rattle.model.specs.Model.{Car, Town, nowhere, there, holds_spot, holds_car, roster, zones_at, zones_of, zones_entered, zones_left, teamed}
+use Rattle.model.specs.declared.opening.Opening.{Opening}
 use Rattle.line.specs.declared.records.Record.{Record}
 use Rattle.line.specs.declared.records.Record.TheVariants.{Bad, Open, Add, Remove, Report, Leave, Search, Roster}
 use Rattle.line.specs.Grammar.{meaning}

@@ -1,12 +1,18 @@
 -- Laws of a test of every number below n, and how a loop makes it.
 use Prim.Native.Nat.{ℕ, zero, suc, ◌+◌, ◌*◌, ◌<◌, ◌≤◌}
-use Rattle.std.specs.Prelude.{◌≡◌, Bool, true, false}
+use Rattle.std.specs.Prelude.{◌≡◌, Bool, true, false, List, length, take, drop, get_or, ◌-◌, eqb}
 use Rattle.std.proofs.Math.Path.{refl, ap}
-use Rattle.std.proofs.Common.{ap₂, sym, ◌∙◌, add-zero, zero-mul, suc-mul, add-one}
+use Rattle.std.proofs.Common.{ap₂, sym, ◌∙◌, add-zero, zero-add, zero-mul, suc-mul, add-one, take_all, Decides, get_or-take, get_or-drop}
+use borrow.Author.Tests.{eq-eqb, eqb-true}
+use borrow.Rule.Slice.PartMut.{mid_of, mid_len}
 use Rattle.std.proofs.Math.Logic.{⊎_elim}
 use Rattle.std.proofs.Math.Bool.{◌&&◌, and-true, and_assoc}
 use native.Mathlib.Omega.{arith}
 use Rattle.order.specs.TestLaws.{lt-or-le, and→, fails, true-not-false}
+use Rattle.std.specs.List.{list_all, range_with_len, IsAllAdjacentAnswer}
+use Rattle.std.proofs.lemmas.List.{ext_get_or}
+use Rattle.std.proofs.lemmas.List.Folds.{list_all_more}
+use Rattle.std.proofs.lemmas.List.FromFn.{length-range_with_len, get_or-range_with_len}
 use Rattle.soundness.specs.Tests.{every}
 
 module _ (p : ℕ → Bool) where
@@ -57,6 +63,38 @@ pub every-ext : (p q : ℕ → Bool) (n : ℕ) → ((i : ℕ) → i < n → p i 
 unfolding every
 every-ext p q zero h = refl
 every-ext p q (suc n) h = ap₂ ◌&&◌ (every-ext p q n (λ i l. h i (omega arith))) (h n (omega arith))
+
+-- ---- lists
+
+module _ {X : Type 0} (p : X → Bool) (d : X) (l : List X) where
+  every-front : (n : ℕ) → n ≤ length l → list_all p (take n l) ≡ every (λ (i : ℕ). p (get_or l i d)) n
+  unfolding every
+  every-front zero h = refl
+  every-front (suc n) h = rw (← add-one n) (list_all_more p l n d (omega arith)) ∙ ap (λ (t : Bool). t && p (get_or l n d)) (every-front n (omega arith))
+
+  -- every number of a list has p
+  pub every-list : list_all p l ≡ every (λ (i : ℕ). p (get_or l i d)) (length l)
+  every-list = ap (list_all p) (sym (take_all (length l) l (omega arith))) ∙ every-front (length l) (omega arith)
+
+-- a chain over the numbers below n
+pub every-range : (p : ℕ → Bool) (n : ℕ) → list_all p (range_with_len 0 n) ≡ every p n
+every-range p n = every-list p 0 (range_with_len 0 n) ∙ rw (length-range_with_len 0 n) (every-ext _ p n (λ i h. ap p (get_or-range_with_len 0 n i 0 h ∙ zero-add i)))
+
+-- each number and the next have p
+pub every-next : (p : ℕ → ℕ → Bool) (l : List ℕ) (r : Bool) → IsAllAdjacentAnswer (λ x y b. b ≡ p x y) l r → r ≡ every (λ (i : ℕ). p (get_or l i 0) (get_or l (i + 1) 0)) (length l - 1)
+every-next p l true h = sym (→every _ (length l - 1) (λ i g. sym (h i 0 (omega arith))))
+every-next p l false h = passed-stop _ (length l - 1) h.0 (omega (arith, h.1)) (sym (h.2 0))
+
+-- two lists of n numbers are equal
+pub every-equal : (a b : List ℕ) (n : ℕ) → length a ≡ n → length b ≡ n → (r : Bool) → Decides r (a ≡ b) → r ≡ every (λ (i : ℕ). eqb (get_or a i 0) (get_or b i 0)) n
+every-equal a b n f g true h = sym (→every _ n (λ i l. eq-eqb (get_or a i 0) (get_or b i 0) (ap (λ (m : List ℕ). get_or m i 0) (h.0 refl))))
+every-equal a b n f g false h = sym (fails (every (λ (i : ℕ). eqb (get_or a i 0) (get_or b i 0)) n) (λ e. true-not-false false (h.1 (ext_get_or 0 a b (f ∙ sym g) (λ i l. eqb-true (get_or a i 0) (get_or b i 0) (every→ _ n e i (omega arith))))) refl))
+
+-- a part is n numbers
+pub every-part : (l b : List ℕ) (from end n : ℕ) → from + n ≡ end → end ≤ length l → length b ≡ n → (r : Bool) → Decides r (mid_of from (end - from) l ≡ b) → r ≡ every (λ (i : ℕ). eqb (get_or l (from + i) 0) (get_or b i 0)) n
+every-part l b from end n e h g r d =
+    every-equal (mid_of from (end - from) l) b n (omega (arith, mid_len from end l h)) g r d
+    ∙ every-ext _ _ n (λ i q. ap (λ (x : ℕ). eqb x (get_or b i 0)) (get_or-take (end - from) (drop from l) i 0 (omega arith) ∙ get_or-drop from l i 0))
 
 -- ---- rows of m numbers
 

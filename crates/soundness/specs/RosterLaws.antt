@@ -1,5 +1,6 @@
 -- The rosters row by row: where a zone's row stands, which cars it has, and its bytes.
-use Rattle.std.specs.Prelude.{ℕ, ◌+◌, ◌-◌, ◌*◌, ◌<◌, ◌≡◌, Bool, true, false, List, T, eqb, Float, length, get_or, take, drop}
+use Rattle.std.specs.Int.{from_bool}
+use Rattle.std.specs.Prelude.{ℕ, ◌+◌, ◌-◌, ◌*◌, ◌<◌, ◌≡◌, refl, Bool, true, false, List, T, eqb, Float, length, get_or, take, drop}
 use Rattle.std.proofs.Math.Path.{fun_ext}
 use Rattle.std.proofs.Common.{◌∙◌, mul-le-mul, mul-le-mul_right, suc-mul, get_or-drop}
 use Rattle.std.proofs.Math.Logic.{⊎_elim}
@@ -70,3 +71,8 @@ module _ {s : Shape} {zones : List ℕ} {Z : ℕ} {cars : List ℕ} {spots : Lis
   pub row-bytes : says row (has s zones cars spots z) ≡ row_right s zones cars spots rosters C z
   unfolding says byte_right
   row-bytes = rw row-long (every-ext _ _ C (λ (c : ℕ) (b : c < C). let d : c < z * C + C - z * C = omega arith in rw (digits_div z b, digits_mod z b, get_or-take (z * C + C - z * C) (drop (z * C) rosters) c 0 d, get_or-drop)))
+
+-- the byte that says yes or no
+pub byte-bit : (b : Bool) → from_bool b ≡ bit b
+byte-bit true = refl
+byte-bit false = refl

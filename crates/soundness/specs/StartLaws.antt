@@ -1,8 +1,8 @@
 -- Where a key parts a rising list: how many of its numbers are below the key.
 use Rattle.std.specs.Prelude.{ℕ, ◌-◌, ◌<◌, ◌≤◌, ◌≡◌, false, List, leb, ltb, eqb, length, get_or, take}
 use Rattle.std.proofs.Math.Logic.{⊎_elim}
-use Rattle.std.proofs.Math.Bool.{true, cond}
-use Rattle.std.proofs.Common.{arith, length-take-le, get_or-take}
+use Rattle.std.proofs.Math.Bool.{Bool, true, cond, ◌&&◌}
+use Rattle.std.proofs.Common.{ap₂, arith, length-take-le, get_or-take}
 use borrow.Author.Tests.{le-leb, lt-leb, lt-ltb, eq-eqb, ne_eqb, leb-true, ltb-true}
 use Rattle.order.specs.Rising.{Rising}
 use Rattle.order.specs.Buffer.{rank, ends_below}
@@ -58,6 +58,17 @@ module _ (entries : List ℕ) (u key n : ℕ) where
         low = λ g. rw (get_or-take u entries (n - 1) 0 (omega arith)) at (rank-low key (take u entries) (n - 1) (omega arith));
         high = λ g. rw (← get_or-take u entries n 0 g) (rw e (rank-high key (take u entries) (omega arith)));
       })
+
+  -- so it goes by those alone
+  pub parts-front : u ≤ length entries → parts (take u entries) (length (take u entries)) key n ≡ parts entries u key n
+  unfolding parts ends_below starts_above
+  parts-front h = rw (length-take-le u entries h) (⊎_elim (λ (a : u < n). rw (lt-leb n u a)) (λ (a : n ≤ u). ap₂ (λ (x y : Bool). leb n u && (x && y)) (low a) (high a)) (lt-or-le u n))
+    where
+      low : n ≤ u → cond (eqb n 0) true (ltb (get_or (take u entries) (n - 1) 0) key) ≡ cond (eqb n 0) true (ltb (get_or entries (n - 1) 0) key)
+      low a = ⊎_elim (λ (l : 0 < n). rw (get_or-take u entries (n - 1) 0 (omega arith))) (λ (l : n ≤ 0). rw (eq-eqb n 0 (omega arith))) (lt-or-le 0 n)
+
+      high : n ≤ u → cond (eqb n u) true (leb key (get_or (take u entries) n 0)) ≡ cond (eqb n u) true (leb key (get_or entries n 0))
+      high a = ⊎_elim (λ (l : n < u). rw (get_or-take u entries n 0 l)) (λ (l : u ≤ n). rw (eq-eqb n u (omega arith))) (lt-or-le n u)
 
   -- test by test
   pub above-none : n ≡ u → true ≡ starts_above entries u key n

@@ -1,6 +1,6 @@
 -- How soundness is found out, test by test.
-use Rattle.std.specs.Prelude.{ℕ, ◌-◌, ◌*◌, ◌<◌, ◌≤◌, ◌≡◌, true, false, List, leb, length, get_or, take}
-use Rattle.std.proofs.Common.{ap, ◌∙◌, arith}
+use Rattle.std.specs.Prelude.{ℕ, ◌+◌, ◌-◌, ◌*◌, ◌<◌, ◌≤◌, ◌≡◌, true, false, List, leb, ltb, length, get_or, take}
+use Rattle.std.proofs.Common.{ap, ap₂, ◌∙◌, arith, length-take-le, get_or-take}
 use Rattle.std.proofs.Math.ListN.{drop, length-drop}
 use Rattle.std.proofs.Math.Seq.{take_all}
 use borrow.Author.Tests.{le-leb, lt-leb, eq-eqb, ne_eqb, leb-true}
@@ -14,10 +14,23 @@ use Rattle.tables.specs.Sizes.{Sized}
 use Rattle.tables.specs.Asks.{Parked}
 use Rattle.tables.specs.Rows.{RowThere}
 use Rattle.tables.specs.RowLaws.{row-in}
-use Rattle.soundness.specs.Tests.{every, zone_fits, car_fits, right_at, rises_at, free_at, size_at, start_right, byte_right, tally_right, in_use, entries_right, sound, Zoned, Fitting, Riding}
+use Rattle.soundness.specs.Tests.{every, zone_fits, car_fits, key_right, right_at, rises_at, free_at, size_at, start_right, byte_right, tally_right, in_use, entries_right, sound, Zoned, Fitting, Riding}
+use Rattle.soundness.specs.EveryLaws.{every-ext}
+use Rattle.soundness.specs.StartLaws.{parts-front}
 use Rattle.soundness.specs.SoundnessLaws.{zones→, cars→}
 
 -- ---- the entries
+
+-- those in use are asked apart
+module _ (entries : List ℕ) (u : ℕ) (few : u ≤ length entries) where
+  pub rises-front : every (rises_at (take u entries)) (length (take u entries) - 1) ≡ every (rises_at entries) (u - 1)
+  rises-front = rw (length-take-le u entries few) (every-ext _ _ (u - 1) (λ i h. ap₂ ltb (get_or-take u entries i 0 (omega arith)) (get_or-take u entries (i + 1) 0 (omega arith))))
+
+  pub rights-front : (s : Shape) (zones : List ℕ) → every (right_at s zones (take u entries)) (length (take u entries)) ≡ every (right_at s zones entries) u
+  rights-front s zones = rw (length-take-le u entries few) (every-ext _ _ u (λ i h. ap (key_right s zones) (get_or-take u entries i 0 h)))
+
+  pub starts-front : (starts : List ℕ) → every (start_right starts (take u entries) (length (take u entries))) (length starts) ≡ every (start_right starts entries u) (length starts)
+  starts-front starts = every-ext _ _ (length starts) (λ p h. parts-front entries u (p * 256) (get_or starts p 0) few)
 
 module _ (s : Shape) (Z : ℕ) (zones entries : List ℕ) (u : ℕ) where
   pub entries-many : length entries < u → false ≡ entries_right s Z zones entries u

@@ -14,14 +14,7 @@ fn row_right(tallies: &[u32], z: usize, row: &[u32]) -> bool
     ensures { result ≡ every (number_right tallies.now z row.now) tally }
 {
     let from = z * TALLY;
-    let mut j = 0;
-    while j < TALLY {
-        if tallies[from + j] != row[j] {
-            return false;
-        }
-        j += 1;
-    }
-    true
+    &tallies[from..from + TALLY] == row
 }
 
 // Whether they are those counted by its row of the rosters and the cars' records.
@@ -41,12 +34,5 @@ pub fn tallies_right(cars: &[u32], rosters: &[u8], tallies: &[u32], Z: usize) ->
     requires tallies_len { length tallies.now ≡ Z * tally }
     ensures { result ≡ every (tally_right cars.now rosters.now tallies.now (length cars.now)) Z }
 {
-    let mut z = 0;
-    while z < Z {
-        if !tally_right(cars, rosters, tallies, z) {
-            return false;
-        }
-        z += 1;
-    }
-    true
+    (0..Z).all(|z| tally_right(cars, rosters, tallies, z))
 }

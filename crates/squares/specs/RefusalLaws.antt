@@ -1,14 +1,69 @@
 -- Laws of refusals: a call is refused by the first test that fails, whatever its tests are.
-use Rattle.std.specs.Prelude.{◌≡◌, ℕ, zero, suc, ◌<◌, ◌≤◌, Bool, true, false, not, ◌&&◌, List, [], ◌∷◌, ◌++◌, ◌≢◌, nat_le, nat_lt, refl}
-use Rattle.std.proofs.Common.{sym, ◌∙◌, arith, le-leb, lt-ltb, le-ltb, ltb-true}
+use Rattle.std.specs.Prelude.{◌≡◌, ℕ, zero, suc, ◌-◌, ◌<◌, ◌≤◌, get_or, Bool, true, false, not, ◌&&◌, List, [], ◌∷◌, ◌++◌, ◌≢◌, nat_le, nat_lt, refl}
+use Rattle.std.proofs.Common.{ap, sym, ◌∙◌, arith, le-leb, lt-ltb, le-ltb, ltb-true}
 use Rattle.std.proofs.lemmas.Bool.{not-true, not-false, lt-leb}
 use Rattle.order.specs.TestLaws.{and→}
-use Rattle.squares.specs.Refusals.{Bar, unless, first}
+use Rattle.std.specs.declared.result.Result.{Result as Told}
+use Rattle.std.specs.declared.result.Result.TheVariants.{Ok, Err}
+use Rattle.squares.specs.declared.refusal.Refusal.{Refusal}
+use Rattle.squares.specs.Refusals.{Bar, unless, first, number_of, refused_by}
 
 -- a call refuses or it does not
 pub by-refusal {ℓ} : {A : Type ℓ} (n : ℕ) → (n ≡ 0 → A) → ((n ≢ 0) → A) → A
 by-refusal zero f g = f refl
 by-refusal (suc n) f g = g (λ (e : suc n ≡ 0). omega arith)
+
+-- the refusals in the order of their numbers, from 1 on; a refusal by its number
+abbrev all : List Refusal
+all = Refusal.Shape ∷ Refusal.Capacity ∷ Refusal.Tables ∷ Refusal.ZoneNumber ∷ Refusal.CarNumber ∷ Refusal.ZoneStands ∷ Refusal.NoZone ∷ Refusal.NoCar ∷ Refusal.Rectangle ∷ Refusal.OffMap ∷ Refusal.Buffer ∷ Refusal.Entries ∷ Refusal.Square ∷ Refusal.Record ∷ Refusal.Team ∷ []
+
+abbrev pub refusal_at : ℕ → Refusal
+refusal_at n = get_or all (n - 1) Refusal.Team
+
+pub at-number : (r : Refusal) → refusal_at (number_of r) ≡ r
+at-number Refusal.Shape = refl
+at-number Refusal.Capacity = refl
+at-number Refusal.Tables = refl
+at-number Refusal.ZoneNumber = refl
+at-number Refusal.CarNumber = refl
+at-number Refusal.ZoneStands = refl
+at-number Refusal.NoZone = refl
+at-number Refusal.NoCar = refl
+at-number Refusal.Rectangle = refl
+at-number Refusal.OffMap = refl
+at-number Refusal.Buffer = refl
+at-number Refusal.Entries = refl
+at-number Refusal.Square = refl
+at-number Refusal.Record = refl
+at-number Refusal.Team = refl
+
+-- no two refusals have one number, and none has 0
+pub number-same : (r s : Refusal) → number_of r ≡ number_of s → r ≡ s
+number-same r s e = sym (at-number r) ∙ ap refusal_at e ∙ at-number s
+
+pub some-number : (r : Refusal) → number_of r ≢ 0
+some-number Refusal.Shape e = omega (arith, e)
+some-number Refusal.Capacity e = omega (arith, e)
+some-number Refusal.Tables e = omega (arith, e)
+some-number Refusal.ZoneNumber e = omega (arith, e)
+some-number Refusal.CarNumber e = omega (arith, e)
+some-number Refusal.ZoneStands e = omega (arith, e)
+some-number Refusal.NoZone e = omega (arith, e)
+some-number Refusal.NoCar e = omega (arith, e)
+some-number Refusal.Rectangle e = omega (arith, e)
+some-number Refusal.OffMap e = omega (arith, e)
+some-number Refusal.Buffer e = omega (arith, e)
+some-number Refusal.Entries e = omega (arith, e)
+some-number Refusal.Square e = omega (arith, e)
+some-number Refusal.Record e = omega (arith, e)
+some-number Refusal.Team e = omega (arith, e)
+
+-- what refuses has its number, and where nothing does there is none
+pub refused-by : {A : Type 0} {t : Told A Refusal} {r : Refusal} {n : ℕ} → refused_by t ≡ n → t ≡ Err r → number_of r ≡ n
+refused-by {A} {t} {r} h e = ap refused_by (sym e) ∙ h
+
+pub none-refused : {A : Type 0} {t : Told A Refusal} {a : A} {n : ℕ} → refused_by t ≡ n → t ≡ Ok a → n ≡ 0
+none-refused {A} {t} {a} h e = sym h ∙ ap refused_by e
 
 -- every test holds
 abbrev pub Clear : List Bar → Type 0

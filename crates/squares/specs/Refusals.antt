@@ -1,6 +1,9 @@
 -- Refusals and results as data: what a call asks, each test with the number that refuses it, and what it leaves and answers.
 use Rattle.std.specs.Prelude.{ℕ, zero, suc, Bool, true, false, List, [], ◌∷◌, map, replicate}
+use Rattle.std.specs.declared.result.Result.{Result as Told}
+use Rattle.std.specs.declared.result.Result.TheVariants.{Ok, Err}
 use Rattle.order.specs.Order.{over}
+use Rattle.squares.specs.declared.refusal.Refusal.{Refusal}
 
 -- what must hold, and the number of the refusal where it does not
 abbrev pub Bar : Type 0
@@ -15,6 +18,29 @@ unless false n rest = n
 unfoldable pub first : List Bar → ℕ
 first [] = 0
 first (x ∷ l) = unless x.0 x.1 (first l)
+
+-- document 01's number of a refusal
+abbrev pub number_of : Refusal → ℕ
+number_of Refusal.Shape = 1
+number_of Refusal.Capacity = 2
+number_of Refusal.Tables = 3
+number_of Refusal.ZoneNumber = 4
+number_of Refusal.CarNumber = 5
+number_of Refusal.ZoneStands = 6
+number_of Refusal.NoZone = 7
+number_of Refusal.NoCar = 8
+number_of Refusal.Rectangle = 9
+number_of Refusal.OffMap = 10
+number_of Refusal.Buffer = 11
+number_of Refusal.Entries = 12
+number_of Refusal.Square = 13
+number_of Refusal.Record = 14
+number_of Refusal.Team = 15
+
+-- the number of what refuses, or 0
+abbrev pub refused_by : {A : Type 0} → Told A Refusal → ℕ
+refused_by (Ok a) = 0
+refused_by (Err r) = number_of r
 
 -- an answer: a refusal by its number, or what is given
 pub data Answer (A : Type 0) : Type 0 where

@@ -3,11 +3,13 @@ use Rattle.std.specs.Prelude.{◌≡◌, ℕ, ◌+◌, ◌-◌, ◌*◌, ◌/◌
 use Rattle.std.proofs.Common.{zero-le, sym, subst, ◌∙◌, arith, add-one, mul_left_comm, mul_comm, mul-one, mul-le-mul, mul-le-mul_left, le-mul_of_pos_right, mul-pos, div-lt_iff_lt-mul, le-div_iff_mul-le, le_trans, le_refl, sub-le, mod-lt, div-le_self, Fits, pow_pos, pow-add, le-leb, lt-ltb, eq-eqb, leb-true, ltb-true, eqb-true}
 use Rattle.std.proofs.Math.Nat.{mul-mul-mul_comm, pow-succ', mod-le}
 use Rattle.std.specs.Int.{w32}
+use Rattle.std.specs.declared.result.Result.{Result}
+use Rattle.std.specs.declared.result.Result.TheVariants.{Ok, Err}
 use Rattle.std.proofs.Math.Arith.{digits_lt}
 use Rattle.order.specs.TestLaws.{and→, fails}
 use Rattle.squares.specs.declared.shape.Shape.{Shape}
 use Rattle.squares.specs.declared.shape.Rect.{Rect}
-use Rattle.squares.specs.declared.shape.Shaped.{Shaped}
+use Rattle.squares.specs.declared.refusal.Refusal.{Refusal}
 use Rattle.squares.specs.Shape.{largest_k, largest_side, shape, side, width, height, allowed, fits}
 use Rattle.squares.specs.Made.{shaped}
 use Rattle.squares.specs.Bounds.{Allowed, Fits as InTown}
@@ -31,20 +33,27 @@ pub not-allowed : (s : Shape) → (Allowed s → ⊥) → allowed s ≡ false
 not-allowed s f = fails (allowed s) (λ (e : allowed s ≡ true). f (allowed→ s e))
 
 -- what the constructor answers: the shape, which is allowed, or none
-made : (b : Bool) (s t : Shape) → b ≡ allowed t → Shaped.Allowed s ≡ cond b (Shaped.Allowed t) (Shaped.Refused 1) → (t ≡ s) × (allowed s ≡ true)
+made : (b : Bool) (s t : Shape) → b ≡ allowed t → ◌≡◌ {A = Result Shape Refusal} (Ok s) (cond b (Ok t) (Err Refusal.Shape)) → (t ≡ s) × (allowed s ≡ true)
 made true s t h e = let same : t ≡ s = cc in (same, rw (← same) (sym h))
 made false s t h e = absurd (let z : ◌≡◌ {A = ℕ} 0 1 = cc in omega arith)
 
-unmade : (b : Bool) (n : ℕ) (t : Shape) → Shaped.Refused n ≡ cond b (Shaped.Allowed t) (Shaped.Refused 1) → b ≡ false
+unmade : (b : Bool) (n : Refusal) (t : Shape) → ◌≡◌ {A = Result Shape Refusal} (Err n) (cond b (Ok t) (Err Refusal.Shape)) → b ≡ false
 unmade true n t e = absurd (let z : ◌≡◌ {A = ℕ} 0 1 = cc in omega arith)
 unmade false n t e = refl
 
-module _ (k P Q : ℕ) {r : Shaped} (h : r ≡ shaped k P Q) where
-  pub shaped→ : {s : Shape} → r ≡ Shaped.Allowed s → (shape k P Q ≡ s) × (allowed s ≡ true)
+unmade-by : (b : Bool) (n : Refusal) (t : Shape) → ◌≡◌ {A = Result Shape Refusal} (Err n) (cond b (Ok t) (Err Refusal.Shape)) → n ≡ Refusal.Shape
+unmade-by true n t e = absurd (let z : ◌≡◌ {A = ℕ} 0 1 = cc in omega arith)
+unmade-by false n t e = cc
+
+module _ (k P Q : ℕ) {r : Result Shape Refusal} (h : r ≡ shaped k P Q) where
+  pub shaped→ : {s : Shape} → r ≡ Ok s → (shape k P Q ≡ s) × (allowed s ≡ true)
   shaped→ {s} e = made (allowed (shape k P Q)) s (shape k P Q) refl (sym e ∙ h)
 
-  pub not-shaped : {n : ℕ} → r ≡ Shaped.Refused n → allowed (shape k P Q) ≡ false
+  pub not-shaped : {n : Refusal} → r ≡ Err n → allowed (shape k P Q) ≡ false
   not-shaped {n} e = unmade (allowed (shape k P Q)) n (shape k P Q) (sym e ∙ h)
+
+  pub shape-refused : {n : Refusal} → r ≡ Err n → n ≡ Refusal.Shape
+  shape-refused {n} e = unmade-by (allowed (shape k P Q)) n (shape k P Q) (sym e ∙ h)
 
 pub fits→ : (s : Shape) (r : Rect) → fits s r ≡ true → InTown s r
 fits→ s r e =

@@ -1,12 +1,14 @@
 // On how many levels two cells lie in different squares.
 ghost use Rattle.squares.specs.Leaves.{StepsApart};
 
-// From the unit cells (x, y) and (column, row) up, k steps to level 0: how many squares on the way differ. They do up to the
+use crate::shape::Cell;
+
+// From two unit cells up, k steps to level 0: how many squares on the way differ. They do up to the
 // highest bit in which a coordinate does.
-pub fn steps_apart(k: u32, x: u32, y: u32, column: u32, row: u32) -> u32
-    ensures { StepsApart k x y column row result }
+pub fn steps_apart(k: u32, from: Cell, to: Cell) -> u32
+    ensures { StepsApart k from.x from.y to.x to.y result }
 {
-    let steps = 32 - u32::leading_zeros((x ^ column) | (y ^ row));
+    let steps = 32 - u32::leading_zeros((from.x ^ to.x) | (from.y ^ to.y));
     if k < steps {
         return k + 1;
     }

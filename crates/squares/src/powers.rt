@@ -77,12 +77,10 @@ pub fn evens_of(i: u32, n: u32) -> u32
     let mut r = 0u32;
     let mut place = 1u32;
     let mut rest = n;
-    let mut j = 0u32;
-    while j < i {
+    for _ in 0..i {
         r += rest % 2 * place;
         place *= 2;
         rest /= 4;
-        j += 1;
     }
     r
 }

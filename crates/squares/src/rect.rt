@@ -3,46 +3,28 @@ ghost use Rattle.std.specs.Prelude.{◌≡◌};
 ghost use Rattle.squares.specs.Shape.{within};
 ghost use Rattle.squares.specs.Leaves.{meets, Near};
 
-use crate::shape::Rect;
+use crate::shape::{Rect, Square};
 
 impl Rect {
-    // Whether the square with corner (x, y) and side d lies wholly inside.
-    pub fn within(self, x: u32, y: u32, d: u32) -> bool
-        requires { Near self x y d }
-        ensures { result ≡ within self x y d }
+    // Whether a square lies wholly inside.
+    pub fn within(self, q: Square) -> bool
+        requires { Near self q.x q.y q.side }
+        ensures { result ≡ within self q.x q.y q.side }
     {
-        if x < self.a {
-            return false;
-        }
-        if self.a + self.w < x + d {
-            return false;
-        }
-        if y < self.b {
-            return false;
-        }
-        if self.b + self.h < y + d {
-            return false;
-        }
-        true
+        self.a <= q.x
+            && q.x + q.side <= self.a + self.w
+            && self.b <= q.y
+            && q.y + q.side <= self.b + self.h
     }
 
     // Whether it shares a cell with the rectangle.
-    pub fn meets(self, x: u32, y: u32, d: u32) -> bool
-        requires { Near self x y d }
-        ensures { result ≡ meets self x y d }
+    pub fn meets(self, q: Square) -> bool
+        requires { Near self q.x q.y q.side }
+        ensures { result ≡ meets self q.x q.y q.side }
     {
-        if x + d <= self.a {
-            return false;
-        }
-        if self.a + self.w <= x {
-            return false;
-        }
-        if y + d <= self.b {
-            return false;
-        }
-        if self.b + self.h <= y {
-            return false;
-        }
-        true
+        self.a < q.x + q.side
+            && q.x < self.a + self.w
+            && self.b < q.y + q.side
+            && q.y < self.b + self.h
     }
 }

@@ -7,10 +7,10 @@ use crate::shape::Rect;
 fn sum_of(a: u32, d: i32) -> i64
     ensures { result ≡ pos a +ℤ d }
 {
-    a as i64 + d as i64
+    i64::from(a) + i64::from(d)
 }
 
-// A coordinate moved, or 256 where it would be below 0 or above that.
+// A coordinate moved, or 256 where it would be below 0 or above that: no Option, since `Rides` gives a rectangle in each case.
 fn slide(a: u32, d: i32) -> u32
     ensures { Slides a d result }
 {

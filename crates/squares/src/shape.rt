@@ -1,4 +1,4 @@
-// The town's shape, a rectangle, a square, and what comes from the shape.
+// The town's shape, a cell, a rectangle, a square, and what comes from the shape.
 ghost use Rattle.std.specs.Prelude.{◌≡◌, ◌*◌, ◌<◌};
 ghost use Rattle.squares.specs.Shape.{largest_side, allowed, side, width, height, fits, holds};
 ghost use Rattle.squares.specs.Made.{shaped};
@@ -8,6 +8,7 @@ ghost use Rattle.squares.specs.Made.{square_of};
 ghost use Rattle.squares.specs.Leaves.{Positive, Below, OnMap, OnLevel};
 
 use crate::powers::{evens_of, four_to, interleaved, two_to};
+use crate::refusal::Refusal;
 
 // k, P and Q of a town: blocks of side 2^k, P of them west to east and Q south to north.
 #[derive(Clone, Copy)]
@@ -15,6 +16,13 @@ pub struct Shape {
     pub k: u32,
     pub P: u32,
     pub Q: u32,
+}
+
+// A cell of a town, by its column and its row.
+#[derive(Clone, Copy, Debug, PartialEq, Eq)]
+pub struct Cell {
+    pub x: u32,
+    pub y: u32,
 }
 
 // The cells from column a and row b on, w columns and h rows of them.
@@ -34,12 +42,8 @@ pub struct Square {
     pub side: u32,
 }
 
-#[derive(Clone, Copy)]
-pub enum Shaped {
-    Refused(u32),
-    Allowed(Shape),
-}
-
+// The bounds are asked of callers (`Allowed`), and are no invariant of the type: `locate` answers for a shape beyond them too, and
+// `cases` gives it one.
 impl Shape {
     // The limits.
     pub const LARGEST_K: u32 = 5;
@@ -52,15 +56,15 @@ impl Shape {
 
     pub const MOST_ENTRIES: u32 = 16384;
 
-    // The shape, or 1 where it is beyond the bounds.
-    pub fn new(k: u32, P: u32, Q: u32) -> Shaped
+    // The shape, where it is within the bounds.
+    pub fn new(k: u32, P: u32, Q: u32) -> Result<Shape, Refusal>
         ensures { result ≡ shaped k P Q }
     {
         let s = Shape { k, P, Q };
         if s.allowed() {
-            Shaped::Allowed(s)
+            Ok(s)
         } else {
-            Shaped::Refused(1)
+            Err(Refusal::Shape)
         }
     }
 
@@ -68,26 +72,11 @@ impl Shape {
     pub fn allowed(self) -> bool
         ensures { result ≡ allowed self }
     {
-        let k = self.k;
-        let P = self.P;
-        let Q = self.Q;
-        if Shape::LARGEST_K < k {
+        if Shape::LARGEST_K < self.k || self.P == 0 || self.Q == 0 {
             return false;
         }
-        if P == 0 {
-            return false;
-        }
-        if Q == 0 {
-            return false;
-        }
-        let most = Shape::LARGEST_SIDE / two_to(k);
-        if most < P {
-            return false;
-        }
-        if most < Q {
-            return false;
-        }
-        true
+        let most = Shape::LARGEST_SIDE / two_to(self.k);
+        self.P <= most && self.Q <= most
     }
 
     // The side of a block.
@@ -139,36 +128,24 @@ impl Shape {
     }
 
     // The block of a cell.
-    pub fn block(self, x: u32, y: u32) -> u32
-        requires { OnMap self x y }
-        ensures { Below (block self x y) (self.P * self.Q) result }
+    pub fn block(self, cell: Cell) -> u32
+        requires { OnMap self cell.x cell.y }
+        ensures { Below (block self cell.x cell.y) (self.P * self.Q) result }
     {
         let side = self.side();
-        x / side + y / side * self.P
+        cell.x / side + cell.y / side * self.P
     }
 
-    // Whether (x, y) is the southwest corner of a square on a level.
-    pub fn is_corner(self, level: u32, x: u32, y: u32) -> bool
+    // Whether a cell is the southwest corner of a square on a level.
+    pub fn is_corner(self, level: u32, cell: Cell) -> bool
         requires { Allowed self }
-        ensures { result ≡ is_corner self level x y }
+        ensures { result ≡ is_corner self level cell.x cell.y }
     {
         if self.k < level {
             return false;
         }
-        if self.width() <= x {
-            return false;
-        }
-        if self.height() <= y {
-            return false;
-        }
         let side = self.side_on(level);
-        if x % side != 0 {
-            return false;
-        }
-        if y % side != 0 {
-            return false;
-        }
-        true
+        cell.x < self.width() && cell.y < self.height() && cell.x % side == 0 && cell.y % side == 0
     }
 
     // Whether a rectangle has cells and lies in the town.
@@ -178,42 +155,22 @@ impl Shape {
     {
         let W = self.width();
         let H = self.height();
-        let w = r.w;
-        let h = r.h;
-        if w == 0 {
-            return false;
-        }
-        if h == 0 {
-            return false;
-        }
-        if W < w {
-            return false;
-        }
-        if W - w < r.a {
-            return false;
-        }
-        if H < h {
-            return false;
-        }
-        if H - h < r.b {
-            return false;
-        }
-        true
+        0 < r.w && 0 < r.h && r.w <= W && r.a <= W - r.w && r.h <= H && r.b <= H - r.h
     }
 
     // The number of the square on a level in which a cell lies; on level 0 that of its block.
-    pub fn number(self, level: u32, x: u32, y: u32) -> u32
-        requires on_map { OnMap self x y }
+    pub fn number(self, level: u32, cell: Cell) -> u32
+        requires on_map { OnMap self cell.x cell.y }
         requires on_level { OnLevel self level }
-        ensures { Below (number self level x y) (squares_on self level) result }
+        ensures { Below (number self level cell.x cell.y) (squares_on self level) result }
     {
         if level == 0 {
-            return self.block(x, y);
+            return self.block(cell);
         }
         let side = self.side();
         let part = self.side_on(level);
-        let local = interleaved(x % side / part, y % side / part);
-        four_to(level) * self.block(x, y) + local
+        let local = interleaved(cell.x % side / part, cell.y % side / part);
+        four_to(level) * self.block(cell) + local
     }
 
     // The square with a number.
@@ -237,11 +194,11 @@ impl Shape {
 
 impl Rect {
     // Whether a cell lies in the rectangle, of any numbers: around 2^64 a difference below 0 is past every u32.
-    pub fn holds(self, x: u32, y: u32) -> bool
-        ensures { result ≡ holds self x y }
+    pub fn holds(self, cell: Cell) -> bool
+        ensures { result ≡ holds self cell.x cell.y }
     {
-        let across = std::num::wrapping_sub_u64(x as u64, self.a as u64);
-        let up = std::num::wrapping_sub_u64(y as u64, self.b as u64);
+        let across = std::num::wrapping_sub_u64(cell.x as u64, self.a as u64);
+        let up = std::num::wrapping_sub_u64(cell.y as u64, self.b as u64);
         let column = across < self.w as u64;
         let row = up < self.h as u64;
         column & row

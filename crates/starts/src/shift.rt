@@ -16,12 +16,10 @@ pub fn shift_to(list: &mut [u32], p: usize, end: usize, v: u32) -> usize
     if v == 0 {
         return end;
     }
-    let mut q = p;
-    while q < end {
-        list[q] = std::num::wrapping_add_u32(list[q], v);
-        q += 1;
+    for q in p..end {
+        list[q] = list[q].wrapping_add(v);
     }
-    q
+    end
 }
 
 // The first n numbers are keys: each start after them moves by a step, around 2^32, for each of the keys before its place.
@@ -32,12 +30,10 @@ fn move_starts(starts: &mut [u32], n: usize, step: u32)
     let many = starts.len();
     let mut p = n;
     let mut by = 0u32;
-    let mut j = 0;
-    while j < n {
+    for j in 0..n {
         let end = place_after(starts[j], many);
         p = shift_to(starts, p, end, by);
-        by = std::num::wrapping_add_u32(by, step);
-        j += 1;
+        by = by.wrapping_add(step);
     }
     shift_to(starts, p, many, by);
 }
@@ -50,7 +46,7 @@ pub fn raise_starts(starts: &mut [u32], n: usize)
     move_starts(starts, n, 1);
 }
 
-// The same, down.
+// The same, down. Two names, since `Moved plus` and `Moved less` are what their callers cite.
 pub fn lower_starts(starts: &mut [u32], n: usize)
     requires { n ≤ length starts.old }
     ensures { Moved less (take n starts.old) n starts.old starts.new }

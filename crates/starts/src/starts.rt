@@ -3,17 +3,12 @@ ghost use Rattle.std.specs.Prelude.{◌≡◌, ◌≤◌, length};
 ghost use Rattle.squares.specs.Shape.{most_entries};
 ghost use Rattle.starts.specs.Starts.{ranks, Reaches, Fills};
 
-use tables::fill_words;
-
 // The place after a key's own, or so many where that is less.
 pub fn place_after(key: u32, many: usize) -> usize
     ensures { Reaches key many result }
 {
     let end = (key / 256) as usize + 1;
-    if many < end {
-        return many;
-    }
-    end
+    end.min(many)
 }
 
 // Sets the numbers from place p up to an end, where that lies further on. Answers up to where they are set.
@@ -25,7 +20,7 @@ fn fill_to(list: &mut [u32], p: usize, end: usize, v: u32) -> usize
     if end <= p {
         return p;
     }
-    fill_words(&mut list[p..end], v);
+    list[p..end].fill(v);
     end
 }
 
@@ -38,14 +33,12 @@ pub fn set_starts(starts: &mut [u32], entries: &[u32])
 {
     let many = starts.len();
     let mut p = 0;
-    let mut i = 0;
-    while i < entries.len() {
+    for (i, key) in entries.iter().enumerate() {
         if p == many {
             return;
         }
-        let end = place_after(entries[i], many);
+        let end = place_after(*key, many);
         p = fill_to(starts, p, end, i as u32);
-        i += 1;
     }
-    fill_to(starts, p, many, i as u32);
+    fill_to(starts, p, many, entries.len() as u32);
 }

@@ -20,17 +20,18 @@ pub fn swap_starts(starts: &mut [u32], n: usize, gone: usize, at: usize, come: u
     let mut by = 0u32;
     let mut i = 0;
     let mut j = at;
+    // Two lists merged by two indices: no `for` goes over both.
     while i + j < all {
         if is_lower(starts, i, gone, j, end) {
             let next = place_after(starts[i], many);
             p = shift_to(starts, p, next, by);
-            by = std::num::wrapping_sub_u32(by, 1);
+            by = by.wrapping_sub(1);
             i += 1;
             continue;
         }
         let next = place_after(starts[j], many);
         p = shift_to(starts, p, next, by);
-        by = std::num::wrapping_add_u32(by, 1);
+        by = by.wrapping_add(1);
         j += 1;
     }
     shift_to(starts, p, many, by);

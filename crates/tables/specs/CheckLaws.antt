@@ -1,5 +1,5 @@
 -- Checks 2 and 3: the tests and what they say, and how long the tables can be.
-use Rattle.std.specs.Prelude.{◌≡◌, ℕ, ◌+◌, ◌*◌, ◌≤◌, true, false, length, ◌==◌, nat_le, nat_lt}
+use Rattle.std.specs.Prelude.{◌≡◌, ℕ, ◌+◌, ◌*◌, ◌≤◌, true, false, ◌&&◌, length, ◌==◌, nat_le, nat_lt}
 use Rattle.std.proofs.Common.{mul-le-mul, arith, le-leb, lt-ltb, eq-eqb, leb-true, ltb-true, eqb-true}
 use Rattle.order.specs.TestLaws.{and→, fails}
 use Rattle.squares.specs.declared.shape.Shape.{Shape}
@@ -8,7 +8,8 @@ use Rattle.squares.specs.Bounds.{Allowed}
 use Rattle.model.specs.Model.{roomy}
 use Rattle.squares.specs.Squares.{squares}
 use Rattle.squares.specs.ShapeLaws.{allowed→, →allowed, squares-few}
-use Rattle.tables.specs.Tables.{Tables, shape_of, zone_room, car_room, entry_room}
+use Rattle.model.specs.declared.opening.Opening.{Opening}
+use Rattle.tables.specs.Tables.{Tables, opening_in, shape_of, zone_room, car_room, entry_room}
 use Rattle.tables.specs.Check.{long, sized}
 use Rattle.tables.specs.Sound.{Sound}
 use Rattle.tables.specs.Sizes.{Roomy, Long, Sized}
@@ -101,3 +102,8 @@ lengths_short s Z C E t shape room h = omega (arith, squares-few s shape, mul-le
 -- sound tables pass check 3
 pub size_of : {t : Tables} → Sound t → Sized t
 size_of {t} sound = sized→ t sound.size
+
+-- check 3 by what head says
+pub sized-by : (t : Tables) {o : Opening} → o ≡ opening_in t → (allowed o.shape && (roomy o.zones o.cars o.entries && long o.shape o.zones o.cars o.entries t)) ≡ sized t
+unfolding sized
+sized-by t e = rw e

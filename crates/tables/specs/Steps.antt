@@ -6,7 +6,8 @@ use Rattle.squares.specs.declared.shape.Rect.{Rect}
 use Rattle.squares.specs.Ride.{ridden}
 use Rattle.squares.specs.Squares.{squares}
 use Rattle.position.specs.declared.Position.{Position}
-use Rattle.model.specs.Model.{Opening, Change, emptied, zone_on, zone_off, zone_moved, car_at, car_off, nothing}
+use Rattle.model.specs.Model.{Change, emptied, zone_on, zone_off, zone_moved, car_at, car_off, nothing}
+use Rattle.model.specs.declared.opening.Opening.{Opening}
 use Rattle.tables.specs.Tables.{Tables, tables, tally, head_of, rect_of}
 use Rattle.tables.specs.Derived.{derived_of, free}
 

@@ -5,7 +5,8 @@ use Rattle.std.specs.Float.{nan}
 use Rattle.squares.specs.declared.shape.Shape.{Shape}
 use Rattle.squares.specs.declared.shape.Rect.{Rect}
 use Rattle.position.specs.declared.Position.{Position}
-use Rattle.model.specs.Model.{Opening, Car, Town, holds_cell, holds_car}
+use Rattle.model.specs.Model.{Car, Town, holds_cell, holds_car}
+use Rattle.model.specs.declared.opening.Opening.{Opening}
 
 pub record Records : Type 0 where
   pub head : List ℕ
@@ -51,6 +52,9 @@ car_room t = slice_index t.records.head 4
 
 abbrev pub entry_room : Tables → ℕ
 entry_room t = slice_index t.records.head 5
+
+abbrev pub opened_by : List ℕ → Opening
+opened_by head = record { shape = shape_in head; zones = slice_index head 3; cars = slice_index head 4; entries = slice_index head 5 }
 
 -- ---- zones
 

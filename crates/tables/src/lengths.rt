@@ -2,114 +2,61 @@
 ghost use Rattle.std.specs.Prelude.{◌≡◌};
 ghost use Rattle.squares.specs.Bounds.{Allowed};
 ghost use Rattle.model.specs.Model.{roomy};
-ghost use Rattle.tables.specs.Lent.{lent, as_read};
+ghost use Rattle.tables.specs.Lent.{given_read};
 ghost use Rattle.tables.specs.Check.{long, sized};
 ghost use Rattle.tables.specs.Sizes.{Roomy};
 
-use crate::records::{car_room, entry_room, shape_in, zone_room};
+use crate::lent::ReadTables;
+use crate::records::opened_by;
 use crate::tallies::TALLY;
+use model::Opening;
 use squares::Shape;
 
 // Whether the capacities of zones, cars and entries are within the bounds.
-pub fn roomy(Z: u32, C: u32, E: u32) -> bool
-    ensures { result ≡ roomy Z C E }
+pub fn roomy(o: Opening) -> bool
+    ensures { result ≡ roomy o.zones o.cars o.entries }
 {
-    if Z == 0 {
-        return false;
-    }
-    if Shape::MOST_ZONES < Z {
-        return false;
-    }
-    if C == 0 {
-        return false;
-    }
-    if Shape::MOST_CARS < C {
-        return false;
-    }
-    if E == 0 {
-        return false;
-    }
-    if Shape::MOST_ENTRIES < E {
-        return false;
-    }
-    true
+    0 < o.zones
+        && o.zones <= Shape::MOST_ZONES
+        && 0 < o.cars
+        && o.cars <= Shape::MOST_CARS
+        && 0 < o.entries
+        && o.entries <= Shape::MOST_ENTRIES
 }
 
-// Whether each table has the length that the shape and the capacities call for.
-pub fn long(
-    s: Shape,
-    Z: u32,
-    C: u32,
-    E: u32,
-    head: &[u32],
-    zones: &[u32],
-    cars: &[u32],
-    spots: &[f32],
-    starts: &[u32],
-    entries: &[u32],
-    rosters: &[u8],
-    tallies: &[u32],
-) -> bool
-    requires allowed { Allowed s }
-    requires roomy { Roomy Z C E }
-    ensures { result ≡ long s Z C E (lent (as_read head) (as_read zones) (as_read cars) (as_read spots) (as_read starts) (as_read entries) (as_read rosters) (as_read tallies)).entry }
-{
-    let many_zones = Z as usize;
-    let many_cars = C as usize;
-    if head.len() != 6 {
-        return false;
+impl ReadTables<'_> {
+    // Whether each table has the length that the shape and the capacities call for.
+    pub fn long(self, o: Opening) -> bool
+        requires allowed { Allowed o.shape }
+        requires roomy { Roomy o.zones o.cars o.entries }
+        ensures { result ≡ long o.shape o.zones o.cars o.entries (given_read self.entry) }
+    {
+        let zones = o.zones as usize;
+        let cars = o.cars as usize;
+        self.head.len() == 6
+            && self.zones.len() == 4 * zones
+            && self.cars.len() == cars
+            && self.spots.len() == 2 * cars
+            && self.starts.len() == o.shape.squares() as usize + 1
+            && self.entries.len() == o.entries as usize
+            && self.rosters.len() == zones * cars
+            && self.tallies.len() == zones * TALLY
     }
-    if zones.len() != 4 * many_zones {
-        return false;
-    }
-    if cars.len() != many_cars {
-        return false;
-    }
-    if spots.len() != 2 * many_cars {
-        return false;
-    }
-    if starts.len() != s.squares() as usize + 1 {
-        return false;
-    }
-    if entries.len() != E as usize {
-        return false;
-    }
-    if rosters.len() != many_zones * many_cars {
-        return false;
-    }
-    if tallies.len() != many_zones * TALLY {
-        return false;
-    }
-    true
-}
 
-// Whether check 3 passes.
-pub fn sized(
-    head: &[u32],
-    zones: &[u32],
-    cars: &[u32],
-    spots: &[f32],
-    starts: &[u32],
-    entries: &[u32],
-    rosters: &[u8],
-    tallies: &[u32],
-) -> bool
-    ensures { result ≡ sized (lent (as_read head) (as_read zones) (as_read cars) (as_read spots) (as_read starts) (as_read entries) (as_read rosters) (as_read tallies)).entry }
-{
-    if head.len() != 6 {
-        return false;
+    // Whether check 3 passes.
+    pub fn sized(self) -> bool
+        ensures { result ≡ sized (given_read self.entry) }
+    {
+        if self.head.len() != 6 {
+            return false;
+        }
+        let o = opened_by(self.head);
+        if !o.shape.allowed() {
+            return false;
+        }
+        if !roomy(o) {
+            return false;
+        }
+        self.long(o)
     }
-    let s = shape_in(head);
-    if !s.allowed() {
-        return false;
-    }
-    let Z = zone_room(head);
-    let C = car_room(head);
-    let E = entry_room(head);
-    if !roomy(Z, C, E) {
-        return false;
-    }
-    long(
-        s, Z, C, E, head, zones, cars, spots, starts, entries, rosters, tallies,
-    )
 }

@@ -18,7 +18,7 @@ pub fn place_of(s: Shape, level: u32, n: u32) -> usize
     (above + n) as usize
 }
 
-// The place of the parent of the square at a place; of a block, which has none, 0.
+// The place of the parent of the square at a place; of a block, which has none, 0, as `parent_of` of the specs says.
 pub fn parent_of(s: Shape, place: usize) -> usize
     requires { Allowed s }
     ensures { result ≡ parent_of s place }

@@ -1,10 +1,10 @@
 // The records: the shape and the capacities, a zone and its rectangle, a car, its team and its position.
 ghost use Rattle.std.specs.Prelude.{◌≡◌, ◌+◌, ◌*◌, ◌<◌, ◌≤◌, length, slice_index};
-ghost use Rattle.squares.specs.Shape.{shape};
-ghost use Rattle.tables.specs.Tables.{head_of, shape_in, rect_in, stands_in, placed_in, spot_in};
+ghost use Rattle.tables.specs.Tables.{head_of, shape_in, opened_by, rect_in, stands_in, placed_in, spot_in};
 ghost use Rattle.tables.specs.Slots.{team_fits, slot_in, car_between};
 
-use position::{Band, Position, in_bands};
+use model::Opening;
+use position::{Bands, Position, in_bands};
 use squares::{Rect, Shape};
 
 // Teams are numbered from 0, the spectators, to 7.
@@ -21,16 +21,25 @@ pub fn shape_in(head: &[u32]) -> Shape
     }
 }
 
-pub fn write_head(head: &mut [u32], k: u32, P: u32, Q: u32, Z: u32, C: u32, E: u32)
-    requires { length head.old ≡ 6 }
-    ensures { head.new ≡ head_of (shape k P Q) Z C E }
+// What an open was given.
+pub fn opened_by(head: &[u32]) -> Opening
+    requires { 6 ≤ length head.now }
+    ensures { result ≡ opened_by head.now }
 {
-    head[0] = k;
-    head[1] = P;
-    head[2] = Q;
-    head[3] = Z;
-    head[4] = C;
-    head[5] = E;
+    Opening {
+        shape: shape_in(head),
+        zones: head[3],
+        cars: head[4],
+        entries: head[5],
+    }
+}
+
+pub fn write_head(head: &mut [u32], o: Opening)
+    requires { length head.old ≡ 6 }
+    ensures { head.new ≡ head_of o.shape o.zones o.cars o.entries }
+{
+    let s = o.shape;
+    head.copy_from_slice(&[s.k, s.P, s.Q, o.zones, o.cars, o.entries]);
 }
 
 pub fn zone_room(head: &[u32]) -> u32
@@ -119,10 +128,10 @@ pub fn spot_in(spots: &[f32], c: usize) -> Position
 }
 
 // Whether car c is placed, and in the cells of two bands. No test is a branch, so that many cars are asked at a time.
-pub fn car_between(cars: &[u32], spots: &[f32], columns: Band, rows: Band, c: usize) -> bool
+pub fn car_between(cars: &[u32], spots: &[f32], bands: Bands, c: usize) -> bool
     requires c_in_bounds { c < length cars.now }
     requires c_in_bounds_2 { 2 * c + 2 ≤ length spots.now }
-    ensures { result ≡ car_between cars.now spots.now columns rows c }
+    ensures { result ≡ car_between cars.now spots.now bands.columns bands.rows c }
 {
-    placed_in(cars, c) & in_bands(columns, rows, spot_in(spots, c))
+    placed_in(cars, c) & in_bands(bands, spot_in(spots, c))
 }

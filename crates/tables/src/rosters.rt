@@ -23,11 +23,8 @@ pub fn list_cars(rosters: &[u8], z: usize, many: u32, out: &mut [u32]) -> usize
 {
     let from = z * many as usize;
     let mut next = 0usize;
-    let mut c = 0u32;
-    while c < many {
-        let at = from + c as usize;
-        next = add_marked(rosters[at], c, out, next);
-        c += 1;
+    for c in 0..many {
+        next = add_marked(rosters[from + c as usize], c, out, next);
     }
     next
 }

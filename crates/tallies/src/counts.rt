@@ -7,7 +7,7 @@ ghost use Rattle.tables.specs.Rows.{RowThere};
 ghost use Rattle.tallies.specs.Counts.{bumped, raised, settled, swung, joined, counted, turned, moved};
 
 use crate::holder::holder_in;
-use tables::{TALLY, fill_words, slot_in};
+use tables::{TALLY, slot_in};
 
 // ---- a zone's row
 
@@ -70,10 +70,8 @@ pub fn move_counts(tallies: &mut [u32], zones: &[u32], g: usize, v: u32)
     requires { g ≤ last_team }
     ensures { tallies.new ≡ moved tallies.old zones.now g v }
 {
-    let mut i = 0;
-    while i < zones.len() {
-        turn_zone(tallies, zones[i], g, v);
-        i += 1;
+    for z in zones {
+        turn_zone(tallies, *z, g, v);
     }
 }
 
@@ -96,13 +94,11 @@ pub fn count_cars(cars: &[u32], rosters: &[u8], z: usize, row: &mut [u32])
     requires row_len { length row.old ≡ tally }
     ensures { row.new ≡ counted cars.now rosters.now (z * length cars.now) (length cars.now) }
 {
-    fill_words(row, 0);
+    row.fill(0);
     let many = cars.len();
     let from = z * many;
-    let mut c = 0;
-    while c < many {
+    for c in 0..many {
         join(row, rosters[from + c], slot_in(cars, c));
-        c += 1;
     }
     settle(row);
 }
@@ -125,5 +121,5 @@ pub fn clear_tally(tallies: &mut [u32], z: usize)
 {
     let from = z * TALLY;
     let end = from + TALLY;
-    fill_words(&mut tallies[from..end], 0);
+    tallies[from..end].fill(0);
 }

@@ -3,7 +3,8 @@ ghost use Rattle.std.specs.Prelude.{◌≡◌, ℕ, ◌+◌, ◌<◌, ◌≤◌,
 ghost use Rattle.model.specs.Teams.{lead};
 ghost use Rattle.tallies.specs.Holder.{lead_of, Foremost};
 
-// A team that has so many cars and more than each other looked at, or 0 where two are level.
+// A team that has so many cars and more than each other looked at, or 0 where two are level: 0 and no Option, since
+// `Foremost` and the tallies say nobody by 0.
 #[derive(Clone, Copy)]
 struct Lead {
     cars: u32,

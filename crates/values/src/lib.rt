@@ -5,8 +5,7 @@ mod tell; // tell.rt: a number returned, and values stored
 mod answers; // answers.rt: each call's answer told
 
 pub use answers::{
-    tell_added, tell_count, tell_cut, tell_holder, tell_left, tell_number, tell_opened,
-    tell_removed, tell_reported, tell_ridden, tell_roster, tell_scoring, tell_searched,
-    tell_soundness, tell_square, tell_where,
+    tell_added, tell_done, tell_holder, tell_looked, tell_number, tell_reported, tell_ridden,
+    tell_scoring, tell_soundness, tell_square, tell_where, tell_written,
 };
-pub use tell::tell_eight;
+pub use tell::{tell_refusal, tell_values};

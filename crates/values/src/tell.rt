@@ -1,124 +1,49 @@
 // A number returned, and values stored in a lent array as far as it goes.
-ghost use Rattle.std.specs.Prelude.{◌≡◌, ◌∷◌, [], set};
+ghost use Rattle.std.specs.Prelude.{◌≡◌, ◌∷◌, [], map, replicate};
 ghost use Rattle.std.proofs.lemmas.List.Edits.{sets};
+ghost use Rattle.squares.specs.Refusals.{number_of};
 ghost use Rattle.values.specs.Promises.{capped, Tells};
+
+use squares::Refusal;
 
 // A number in 32 bits, the largest where it is too large.
 fn cap(n: usize) -> u32
     ensures { result ≡ capped n }
 {
-    if n <= 0xFFFF_FFFF {
-        return n as u32;
-    }
-    0xFFFF_FFFF
+    u32::try_from(n).unwrap_or(u32::MAX)
 }
 
-// A value goes to its place.
-fn tell(values: &mut [u32], at: usize, n: usize)
-    ensures { values.new ≡ set values.old at (capped n) }
+// The values go to the front of the array.
+fn store_all(told: &[usize], values: &mut [u32])
+    ensures { values.new ≡ sets values.old 0 (map capped told.now) }
 {
-    order::store(values, at, cap(n));
-}
-
-pub fn tell_one(r: u32, a: usize, values: &mut [u32]) -> u32
-    ensures { Tells (r ∷ a ∷ []) values.old values.new result }
-{
-    tell(values, 0, a);
-    r
-}
-
-pub fn tell_two(r: u32, a: usize, b: usize, values: &mut [u32]) -> u32
-    ensures { Tells (r ∷ a ∷ b ∷ []) values.old values.new result }
-{
-    tell(values, 0, a);
-    tell(values, 1, b);
-    r
-}
-
-pub fn tell_three(r: u32, a: usize, b: usize, c: usize, values: &mut [u32]) -> u32
-    ensures { Tells (r ∷ a ∷ b ∷ c ∷ []) values.old values.new result }
-{
-    tell(values, 0, a);
-    tell(values, 1, b);
-    tell(values, 2, c);
-    r
-}
-
-pub fn tell_four(r: u32, a: usize, b: usize, c: usize, d: usize, values: &mut [u32]) -> u32
-    ensures { Tells (r ∷ a ∷ b ∷ c ∷ d ∷ []) values.old values.new result }
-{
-    tell(values, 0, a);
-    tell(values, 1, b);
-    tell(values, 2, c);
-    tell(values, 3, d);
-    r
-}
-
-pub fn tell_eight(
-    r: u32,
-    a: usize,
-    b: usize,
-    c: usize,
-    d: usize,
-    e: usize,
-    f: usize,
-    g: usize,
-    h: usize,
-    values: &mut [u32],
-) -> u32
-    ensures { Tells (r ∷ a ∷ b ∷ c ∷ d ∷ e ∷ f ∷ g ∷ h ∷ []) values.old values.new result }
-{
-    tell(values, 0, a);
-    tell(values, 1, b);
-    tell(values, 2, c);
-    tell(values, 3, d);
-    tell(values, 4, e);
-    tell(values, 5, f);
-    tell(values, 6, g);
-    tell(values, 7, h);
-    r
-}
-
-pub fn tell_nine(
-    r: u32,
-    a: usize,
-    b: usize,
-    c: usize,
-    d: usize,
-    e: usize,
-    f: usize,
-    g: usize,
-    h: usize,
-    i: usize,
-    values: &mut [u32],
-) -> u32
-    ensures { Tells (r ∷ a ∷ b ∷ c ∷ d ∷ e ∷ f ∷ g ∷ h ∷ i ∷ []) values.old values.new result }
-{
-    tell(values, 0, a);
-    tell(values, 1, b);
-    tell(values, 2, c);
-    tell(values, 3, d);
-    tell(values, 4, e);
-    tell(values, 5, f);
-    tell(values, 6, g);
-    tell(values, 7, h);
-    tell(values, 8, i);
-    r
-}
-
-// A coordinate goes to its place, its bits unchanged.
-fn point(position: &mut [f32], at: usize, x: f32)
-    ensures { position.new ≡ set position.old at x }
-{
-    if at < position.len() {
-        position[at] = x;
+    for (i, n) in told.iter().enumerate() {
+        order::store(values, i, cap(*n));
     }
 }
 
-// Two coordinates at the front of an array.
+// 0 is returned, and the values are stored.
+pub fn tell_values<const N: usize>(told: [usize; N], values: &mut [u32]) -> u32
+    ensures { Tells (0 ∷ told.entry) values.old values.new result }
+{
+    store_all(&told, values);
+    0
+}
+
+// The number of a refusal is returned, and each of N values is 0.
+pub fn tell_refusal<const N: usize>(r: Refusal, values: &mut [u32]) -> u32
+    ensures { Tells (number_of r ∷ replicate N 0) values.old values.new result }
+{
+    for i in 0..N {
+        order::store(values, i, 0);
+    }
+    r.number()
+}
+
+// Two coordinates go to the front of an array, their bits unchanged.
 pub fn point_two(x: f32, y: f32, position: &mut [f32])
     ensures { position.new ≡ sets position.old 0 (x ∷ y ∷ []) }
 {
-    point(position, 0, x);
-    point(position, 1, y);
+    order::store(position, 0, x);
+    order::store(position, 1, y);
 }

@@ -14,7 +14,8 @@ use Rattle.cuts.specs.Leaves.{AllRoom}
 use Rattle.squares.specs.ShapeLaws.{fits→}
 use Rattle.squares.specs.Refusals.{first}
 use Rattle.squares.specs.RefusalLaws.{clear}
-use Rattle.model.specs.declared.answers.Added.{Added}
+use Rattle.std.specs.declared.result.Result.TheVariants.{Ok, Err}
+use Rattle.squares.specs.declared.refusal.Refusal.{Refusal}
 use Rattle.model.specs.Answers.{numbers}
 use Rattle.model.specs.Model.{adding, known, entries_used, meaning}
 use Rattle.tables.specs.Tables.{Tables, tables, tally, shape_of, zone_room, car_room, entry_room, stands, zone_in, town_of}
@@ -95,11 +96,11 @@ module _ {t : Tables} {z : ℕ} {r : Rect} (h : New t z r) where
       room-is : Sound t → leb (entries_used (town_of t) + length (cut (shape_of t) r)) (entry_room t) ≡ leb (u + n) (length t.derived.entries)
       room-is sound = ap₂ leb (ap₂ ◌+◌ (sym (in_use sound)) (sym cut-is)) (sym (size_of sound).lengths.entries)
 
-      pub add-full : length t.derived.entries < u + n → Keeps (both t t) (added z r (Added.Refused 12))
+      pub add-full : length t.derived.entries < u + n → Keeps (both t t) (added z r (Err Refusal.Entries))
       unfolding meaning first
       add-full l = keeps-late t (adding z r) _ 11 h.none (inl refl) refl (λ any sound. rw (room-is sound ∙ lt-leb (u + n) (length t.derived.entries) l))
 
-      pub add_kept : u + n ≤ length t.derived.entries → {w b e m n' : List ℕ} {many inside : ℕ} → many ≡ car_room t → w ≡ with_zone t.records.zones z r → KeysAdded s r z u t.derived.starts b t.derived.entries e → RowMarked s t.records.cars t.records.spots r t.derived.rosters m z many inside → n' ≡ sets t.derived.tallies (z * tally) (counted t.records.cars m (z * length t.records.cars) (length t.records.cars)) → Keeps (both t (tables t.records.head w t.records.cars t.records.spots b e m n')) (added z r (Added.Done n inside))
+      pub add_kept : u + n ≤ length t.derived.entries → {w b e m n' : List ℕ} {many inside : ℕ} → many ≡ car_room t → w ≡ with_zone t.records.zones z r → KeysAdded s r z u t.derived.starts b t.derived.entries e → RowMarked s t.records.cars t.records.spots r t.derived.rosters m z many inside → n' ≡ sets t.derived.tallies (z * tally) (counted t.records.cars m (z * length t.records.cars) (length t.records.cars)) → Keeps (both t (tables t.records.head w t.records.cars t.records.spots b e m n')) (added z r (Ok (record { squares = n; cars = inside })))
       unfolding meaning first
       add_kept l {w} {b} {e} {m} {n'} {inside = i} room ew ek em en = keeps-done t (adding z r) _ _ (numbers (n ∷ i ∷ [])) h.none refl
           (λ any sound. (rw (room-is sound ∙ le-leb (u + n) (length t.derived.entries) l), (rw (cut-is, row.count ∙ cars-added t sound z h.zone h.down r h.fit), rw (ew, en, h.size.lengths.cars, row.written) (added_is t sound z h.zone h.down r h.fit b e (rw (shape, in_use sound ∙ sym (count-used t (size_of sound))) at ek)))))

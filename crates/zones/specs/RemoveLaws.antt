@@ -7,7 +7,8 @@ use Rattle.squares.specs.declared.shape.Shape.{Shape}
 use Rattle.squares.specs.declared.shape.Rect.{Rect}
 use Rattle.squares.specs.Refusals.{first}
 use Rattle.squares.specs.RefusalLaws.{clear}
-use Rattle.model.specs.declared.answers.Removed.{Removed}
+use Rattle.std.specs.declared.result.Result.TheVariants.{Ok, Err}
+use Rattle.squares.specs.declared.refusal.Refusal.{Refusal}
 use Rattle.model.specs.Answers.{numbers}
 use Rattle.model.specs.Model.{removing, meaning}
 use Rattle.tables.specs.Tables.{Tables, tables, tally, shape_of, car_room, rect_of, stands}
@@ -43,6 +44,6 @@ module _ {t : Tables} {z : ℕ} (h : There t z) where
     few = omega (arith, h.size.lengths.entries, h.size.room.entries-few);
   })
 
-  pub remove-kept : {s : Shape} {o : Rect} {many : ℕ} → s ≡ shape_of t → o ≡ rect_of t z → many ≡ car_room t → {w b e r n : List ℕ} → w ≡ without_zone t.records.zones z → Drops s o z (in_use t.derived.starts) t.derived.starts b t.derived.entries e → r ≡ row_cleared t.derived.rosters z many → n ≡ sets t.derived.tallies (z * tally) (replicate tally 0) → Keeps (both t (tables t.records.head w t.records.cars t.records.spots b e r n)) (removed z Removed.Done)
+  pub remove-kept : {s : Shape} {o : Rect} {many : ℕ} → s ≡ shape_of t → o ≡ rect_of t z → many ≡ car_room t → {w b e r n : List ℕ} → w ≡ without_zone t.records.zones z → Drops s o z (in_use t.derived.starts) t.derived.starts b t.derived.entries e → r ≡ row_cleared t.derived.rosters z many → n ≡ sets t.derived.tallies (z * tally) (replicate tally 0) → Keeps (both t (tables t.records.head w t.records.cars t.records.spots b e r n)) (removed z (Ok (tt {0})))
   unfolding meaning first
   remove-kept shape rect room {w} {b} {e} {r} {n} ew d er en = keeps-done t (removing z) _ _ (numbers []) h.none refl (λ any sound. (refl, (refl, rw (ew, er, en, room) (removed-is t sound z h.zone standing b e (rw (shape, rect) at d)))))

@@ -23,7 +23,8 @@ use Rattle.squares.specs.ShapeLaws.{fits→}
 use Rattle.squares.specs.Refusals.{first, accept, Result}
 use Rattle.squares.specs.RefusalLaws.{clear}
 use Rattle.cuts.specs.Cut.{cut}
-use Rattle.model.specs.declared.answers.Ridden.{Ridden}
+use Rattle.std.specs.declared.result.Result.TheVariants.{Ok, Err}
+use Rattle.squares.specs.declared.refusal.Refusal.{Refusal}
 use Rattle.model.specs.Answers.{Values, numbers, ridden_is}
 use Rattle.model.specs.Model.{there, known, riding, cut_of, entries_used, meaning}
 use Rattle.tables.specs.Tables.{Tables, tables, tally, shape_of, zone_room, car_room, entry_room, rect_of, stands, zone_in, town_of}
@@ -150,7 +151,7 @@ module _ {t : Tables} {z : ℕ} {dx dy : ℤ} {b f : List ℕ} (h : Mover t z dx
           let in_use_lem : u ≡ entries_used (town_of t) = last ∙ last-start sound z ∙ count-used t (size_of sound) in
           rw (shape, was, new_is, (size_of sound).lengths.entries, sound.zones z h.stand, in_use_lem, le-leb (entries_used (town_of t)) (entry_room t) (omega (arith, used-room t sound, count-used t (size_of sound))))
 
-      pub ride-full : has_room s old new u (length t.derived.entries) ≡ false → Keeps (both t t) (event (riding z dx dy b f) (b ∷ f ∷ []) (ridden_is (Ridden.Refused 12)))
+      pub ride-full : has_room s old new u (length t.derived.entries) ≡ false → Keeps (both t t) (event (riding z dx dy b f) (b ∷ f ∷ []) (ridden_is (Err Refusal.Entries)))
       unfolding meaning first
       ride-full e = keeps-late t (riding z dx dy b f) _ 11 h.none (inl refl) refl (λ any sound. rw (room_moved t sound z h.zone h.stand dx dy fit-new ∙ sym (room-is sound) ∙ e))
 
@@ -167,7 +168,7 @@ module _ {t : Tables} {z : ℕ} {dx dy : ℤ} {b f : List ℕ} (h : Mover t z dx
           few = omega (arith, h.size.lengths.entries, h.size.room.entries-few);
         }
 
-        pub ride-kept : {many gone come n m : ℕ} {w s' e' r n' b' f' : List ℕ} → many ≡ car_room t → w ≡ with_zone t.records.zones z new → KeysRidden s old new z u t.derived.starts s' t.derived.entries e' gone come → RowRidden s t.records.cars t.records.spots new t.derived.rosters r z many b b' f f' n m → n' ≡ sets t.derived.tallies (z * tally) (counted t.records.cars r (z * length t.records.cars) (length t.records.cars)) → Keeps (both t (tables t.records.head w t.records.cars t.records.spots s' e' r n')) (event (riding z dx dy b f) (b' ∷ f' ∷ []) (ridden_is (Ridden.Done gone come n m)))
+        pub ride-kept : {many gone come n m : ℕ} {w s' e' r n' b' f' : List ℕ} → many ≡ car_room t → w ≡ with_zone t.records.zones z new → KeysRidden s old new z u t.derived.starts s' t.derived.entries e' gone come → RowRidden s t.records.cars t.records.spots new t.derived.rosters r z many b b' f f' n m → n' ≡ sets t.derived.tallies (z * tally) (counted t.records.cars r (z * length t.records.cars) (length t.records.cars)) → Keeps (both t (tables t.records.head w t.records.cars t.records.spots s' e' r n')) (event (riding z dx dy b f) (b' ∷ f' ∷ []) (ridden_is (Ok (record { dropped = gone; taken = come; entered = n; left = m }))))
         unfolding meaning first
         ride-kept {many} {gone} {come} {n} {m} {w} {s'} {e'} {r} {n'} {b'} {f'} room ew ek er en = keeps-done t (riding z dx dy b f) _ _ (numbers (gone ∷ come ∷ n ∷ m ∷ [])) h.none refl (λ any sound.
             let kept : KeysRidden (shape_of t) (rect_of t z) (ridden dx dy (rect_of t z)) z (in_use t.derived.starts) t.derived.starts s' t.derived.entries e' gone come = rw (shape, was, new_is, last) at ek in

@@ -1,6 +1,5 @@
 -- A descent from a square that is crossed, child by child: each is looked at, and where it is crossed too descended from. Each call is one level lower.
-use Rattle.std.proofs.Common.{arith}
-use Rattle.cuts.specs.StepLaws.{goes_on, gone-on, child-begins, child-room, child-turns, child-ends}
+use Rattle.cuts.specs.StepLaws.{gone-on, child-begins, child-room, child-turns, child-ends}
 use Rattle.cuts.proofs.descent.+descend.Goals as goal
 use Rattle.cuts.proofs.descent.+descend.Goals.{then-take_square, else-take_square}
 
@@ -9,9 +8,6 @@ loop-c-init t c = child-begins c.requires _
 
 pub take_square-requires : goal.take_square-requires
 take_square-requires t c = child-room c.requires c.loop-c-test.true c.loop-c.invariant
-
-pub descend-requires : goal.descend-requires
-descend-requires t c = (omega (arith, c.decreases, c.requires.room.level, c.requires.room.levels), goes_on c.take_square.ensures c.if-take_square.true)
 
 pub loop-c-preserved : goal.loop-c-preserved
 loop-c-preserved t c =

@@ -1,10 +1,6 @@
--- `cut_row`: what its loop keeps, and the number that falls with each turn.
-use Prim.Native.Nat.{◌-◌}
+-- `cut_row`: what its loop keeps.
 use Rattle.cuts.specs.LoopLaws.{RowTurn}
 use Rattle.cuts.proofs.descent.cut_row.Given as goal
 
 abbrev pub invariant-loop-column : goal.invariant-loop-column
 invariant-loop-column l = RowTurn l.s l.r l.row l.initial.out l.out l.initial.next l.next l.column
-
-abbrev pub decreases-loop-column : goal.decreases-loop-column
-decreases-loop-column l = l.end - l.column

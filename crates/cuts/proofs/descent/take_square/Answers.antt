@@ -3,21 +3,17 @@ use mathlib.Core.Bool.{false}
 use mathlib.Core.Path.{◌≡◌, sym, ◌∙◌}
 use Rattle.squares.specs.Shape.{within}
 use Rattle.cuts.specs.StepLaws.{takes-inside, takes-lowest, takes-shared}
-use borrow.Author.Rules.{rules}
 use Rattle.cuts.proofs.descent.take_square.Goals as goal
-
-pub overflow_add-next : goal.overflow_add-next
-overflow_add-next c = let room = c.requires in let h = room.apart.few _ room.level in search rules
 
 pub returns-then-within : goal.returns-then-within
 returns-then-within c = takes-inside c.requires (sym c.within.ensures ∙ c.if-within.true) c.store.ensures
 
 pub returns-then-level-next : goal.returns-then-level-next
 returns-then-level-next c =
-    let not-inside : let a = c.args in within a.r a.x a.y a.d ≡ false = sym c.within.ensures ∙ c.if-within.false in
+    let not-inside : let a = c.args in within a.r a.q.x a.q.y a.q.side ≡ false = sym c.within.ensures ∙ c.if-within.false in
     takes-shared c.requires _ not-inside c.if-level-next.true c.meets.ensures
 
 pub returns : goal.returns
 returns c =
-    let not-inside : let a = c.args in within a.r a.x a.y a.d ≡ false = sym c.within.ensures ∙ c.if-within.false in
+    let not-inside : let a = c.args in within a.r a.q.x a.q.y a.q.side ≡ false = sym c.within.ensures ∙ c.if-within.false in
     takes-lowest c.requires _ not-inside c.if-level-next.false

@@ -20,30 +20,15 @@ returns-then-level-eq0 c =
     let is-inside : let a = c.args in c.within.result ≡ inside a.s a.r a.level a.n = c.within.ensures ∙ inside-square c.requires _ c.square-q.ensures in
     sym (cut-top _ _ _ _ c.if-level-eq0.true (sym is-inside ∙ not-false _ c.if-not-within.false-raw))
 
-pub overflow_mul-x : goal.overflow_mul-x
-overflow_mul-x c =
-    let child : let a = c.args in Quarter a.s a.level a.n c.square-q.result = quarter c.requires c.if-level-eq0.false _ c.square-q.ensures in
-    record { fits = omega (arith, child.x, child.near) }
-
-pub overflow_sub-x : goal.overflow_sub-x
-overflow_sub-x c =
+pub overflow_sub-parent : goal.overflow_sub-parent
+overflow_sub-parent c =
     let child : let a = c.args in Quarter a.s a.level a.n c.square-q.result = quarter c.requires c.if-level-eq0.false _ c.square-q.ensures in
     omega (arith, child.x)
 
-pub overflow_mul-y : goal.overflow_mul-y
-overflow_mul-y c =
-    let child : let a = c.args in Quarter a.s a.level a.n c.square-q.result = quarter c.requires c.if-level-eq0.false _ c.square-q.ensures in
-    let q = child in record { fits = omega (arith, q.y, q.near) }
-
-pub overflow_sub-y : goal.overflow_sub-y
-overflow_sub-y c =
+pub overflow_sub-parent-2 : goal.overflow_sub-parent-2
+overflow_sub-parent-2 c =
     let child : let a = c.args in Quarter a.s a.level a.n c.square-q.result = quarter c.requires c.if-level-eq0.false _ c.square-q.ensures in
     omega (arith, child.y)
-
-pub overflow_mul-q : goal.overflow_mul-q
-overflow_mul-q c =
-    let child : let a = c.args in Quarter a.s a.level a.n c.square-q.result = quarter c.requires c.if-level-eq0.false _ c.square-q.ensures in
-    record { fits = omega (arith, child.near) }
 
 pub within-requires-2 : goal.within-requires-2
 within-requires-2 c =

@@ -10,7 +10,7 @@ pub loop-i-preserved-then-key-z : goal.loop-i-preserved-then-key-z
 loop-i-preserved-then-key-z c = drop-takes c.loop-i.invariant (omega arith) c.if-key-z.true
 
 pub loop-i-preserved : goal.loop-i-preserved
-loop-i-preserved c = drop-skips c.loop-i.invariant (omega arith) c.if-key-z.false c.place_after.ensures c.shift_to-p.ensures (omega arith) c.wrapping_sub_u32-by.ensures.value
+loop-i-preserved c = drop-skips c.loop-i.invariant (omega arith) c.if-key-z.false c.place_after.ensures c.shift_to-p.ensures (omega arith) (omega (arith, c.loop-i.auto.by-fits))
 
 pub returns : goal.returns
 returns c = drop-ends c.loop-i.invariant (omega arith) c.shift_to.ensures

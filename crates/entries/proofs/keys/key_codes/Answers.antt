@@ -4,17 +4,14 @@ use Rattle.order.specs.SetLaws.{set-begins, set_next, set-turns, set-ends, map_e
 use Rattle.entries.specs.Keys.{code_key}
 use Rattle.entries.proofs.keys.key_codes.Goals as goal
 
-pub loop-i-init : goal.loop-i-init
-loop-i-init c = set-begins _ _
+pub loop-code-init : goal.loop-code-init
+loop-code-init c = set-begins _ _
 
 pub code_key-requires : goal.code_key-requires
-code_key-requires c = rw (set_next c.loop-i.invariant (omega arith)) (c.requires c.loop-i.i (omega arith))
+code_key-requires c = rw (set_next c.loop-code.invariant (omega arith)) (c.requires c.loop-code.code-index (omega arith))
 
-pub loop-i-preserved : goal.loop-i-preserved
-loop-i-preserved c = set-turns c.loop-i.invariant (omega arith) _ (c.code_key.ensures ∙ ap (code_key _ _) (set_next c.loop-i.invariant (omega arith)))
-
-pub shape_of-codes : goal.shape_of-codes
-shape_of-codes c = c.loop-i.invariant.long
+pub loop-code-preserved : goal.loop-code-preserved
+loop-code-preserved c = set-turns c.loop-code.invariant (omega arith) _ (c.code_key.ensures ∙ ap (code_key _ _) (set_next c.loop-code.invariant (omega arith)))
 
 pub returns : goal.returns
-returns c = set-ends c.loop-i.invariant (omega arith) ∙ map_each (code_key c.args.s c.args.z) c.args.codes.now
+returns c = set-ends c.loop-code.invariant (omega arith) ∙ map_each (code_key c.args.s c.args.z) c.args.codes.now

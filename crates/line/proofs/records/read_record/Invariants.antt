@@ -1,10 +1,9 @@
--- `read_record`: what its loop keeps, and the number that falls with each turn.
-use Prim.Native.Nat.{◌-◌}
+-- `read_record`: what its loop keeps.
+use Rattle.std.proofs.Common.{length}
+use Rattle.line.specs.Grammar.{form}
 use Rattle.line.specs.RecordLaws.{Gets}
+use Rattle.line.proofs.Forms.{wide}
 use Rattle.line.proofs.records.read_record.Given as goal
 
 abbrev pub invariant-loop-i : goal.invariant-loop-i
-invariant-loop-i l = Gets l.letter l.count l.bases l.line l.ends l.v l.at l.i
-
-abbrev pub decreases-loop-i : goal.decreases-loop-i
-decreases-loop-i l = l.count - l.i
+invariant-loop-i l = Gets l.letter (length (form l.letter)) (wide l.letter) l.line l.ends l.v l.at l.i

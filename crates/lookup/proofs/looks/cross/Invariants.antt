@@ -1,10 +1,6 @@
--- `cross`: what its loop keeps, and the number that falls with each turn.
-use Prim.Native.Nat.{◌-◌}
+-- `cross`: what its loop keeps.
 use Rattle.lookup.specs.LookLaws.{Crossing}
 use Rattle.lookup.proofs.looks.cross.Given as goal
 
-abbrev pub invariant-loop-up : goal.invariant-loop-up
-invariant-loop-up l = Crossing l.s l.zones l.starts l.entries l.x l.y l.column l.row l.initial.entered l.entered l.initial.left l.left l.differing l.old l.new l.up l.came l.gone
-
-abbrev pub decreases-loop-up : goal.decreases-loop-up
-decreases-loop-up l = l.differing - l.up
+abbrev pub invariant-loop : goal.invariant-loop
+invariant-loop l = Crossing l.s l.zones l.starts l.entries l.from.x l.from.y l.to.x l.to.y l.initial.entered l.entered l.initial.left l.left l.differing l.old l.new l.counter l.came l.gone

@@ -1,10 +1,6 @@
--- `look_up`: what its loop keeps, and the number that falls with each turn.
-use Prim.Native.Nat.{suc, ◌-◌}
+-- `look_up`: what its loop keeps.
 use Rattle.lookup.specs.LookLaws.{Looking}
 use Rattle.lookup.proofs.looks.look_up.Given as goal
 
-abbrev pub invariant-loop-looked : goal.invariant-loop-looked
-invariant-loop-looked l = Looking l.s l.x l.y l.starts l.entries l.initial.out l.out l.place l.looked l.found
-
-abbrev pub decreases-loop-looked : goal.decreases-loop-looked
-decreases-loop-looked l = suc l.s.k - l.looked
+abbrev pub invariant-loop : goal.invariant-loop
+invariant-loop l = Looking l.s l.fn.cell.x l.fn.cell.y l.starts l.entries l.initial.out l.out l.place l.counter l.found

@@ -1,41 +1,28 @@
 -- `refuse` asks in order: the tables and the held bytes, then the buffer.
-use native.Mathlib.Omega.{arith}
-use borrow.Author.Rules.{rules}
-use Rattle.pieces.specs.PromiseLaws.{refused-room, refused-held, refused-out, refused_none}
+use mathlib.Core.Path.{sym, ◌∙◌}
+use borrow.Author.Tests.{lt-leb, le-leb}
+use Rattle.order.specs.TestLaws.{true-or-false}
+use Rattle.squares.specs.RefusalLaws.{stops}
+use Rattle.tables.specs.Lent.{given_read}
+use Rattle.pieces.specs.Pieces.{checks}
+use Rattle.pieces.proofs.pieces.refuse.Goals.{then-not-roomed-via-then-not-roomed, then-not-roomed-via-else-not-roomed+then-not-counted}
 use Rattle.pieces.proofs.pieces.refuse.Goals as goal
 
-pub returns-then-head-ne6 : goal.returns-then-head-ne6
-returns-then-head-ne6 c = refused-room (λ r. c.if-head-ne6.true r.head)
-
-pub returns-then-zones-ne64 : goal.returns-then-zones-ne64
-returns-then-zones-ne64 c = refused-room (λ r. c.if-zones-ne64.true r.zones)
-
-pub returns-then-cars-ne64 : goal.returns-then-cars-ne64
-returns-then-cars-ne64 c = refused-room (λ r. c.if-cars-ne64.true r.cars)
-
-pub returns-then-spots-ne128 : goal.returns-then-spots-ne128
-returns-then-spots-ne128 c = refused-room (λ r. c.if-spots-ne128.true r.spots)
-
-pub returns-then-starts-ne5462 : goal.returns-then-starts-ne5462
-returns-then-starts-ne5462 c = refused-room (λ r. c.if-starts-ne5462.true r.starts)
-
-pub returns-then-entries-ne2048 : goal.returns-then-entries-ne2048
-returns-then-entries-ne2048 c = refused-room (λ r. c.if-entries-ne2048.true r.entries)
-
-pub returns-then-rosters-ne1024 : goal.returns-then-rosters-ne1024
-returns-then-rosters-ne1024 c = refused-room (λ r. c.if-rosters-ne1024.true r.rosters)
-
-pub returns-then-tallies : goal.returns-then-tallies
-returns-then-tallies c = refused-room (λ r. c.if-tallies.true r.tallies)
-
-pub returns-then-held-ne82 : goal.returns-then-held-ne82
-returns-then-held-ne82 c = refused-held (λ l f. c.if-held-ne82.true l)
-
-pub returns-then-held-gt81 : goal.returns-then-held-gt81
-returns-then-held-gt81 c = refused-held (λ l f. omega (arith, f, c.if-held-gt81.true))
+pub returns-then-not-roomed : goal.returns-then-not-roomed
+returns-then-not-roomed c =
+    let a = c.args in
+    let l = checks (given_read a.town) a.held.now a.out.now in
+    elim c.then-not-roomed.branch [
+      | then-not-roomed-via-then-not-roomed w ↦ record { is = stops 0 l (sym c.roomed.ensures ∙ w.if-not-roomed.true) }
+      | then-not-roomed-via-else-not-roomed+then-not-counted w ↦ record { is = stops 1 l (sym c.roomed.ensures ∙ w.if-not-roomed.false, sym w.counted.ensures ∙ w.if-not-counted.true) }
+    ]
 
 pub returns-then-out-lt768 : goal.returns-then-out-lt768
-returns-then-out-lt768 c = refused-out (search rules) (omega arith) (omega arith) (omega arith)
+returns-then-out-lt768 c =
+    let a = c.args in
+    record { is = stops 2 (checks (given_read a.town) a.held.now a.out.now) (sym c.roomed.ensures ∙ c.if-not-roomed.false, (sym c.counted.ensures ∙ c.if-not-counted.false, lt-leb _ _ c.if-out-lt768.true)) }
 
 pub returns : goal.returns
-returns c = refused_none (search rules) (omega arith) (omega arith) (omega arith)
+returns c =
+    let a = c.args in
+    record { is = stops 3 (checks (given_read a.town) a.held.now a.out.now) (sym c.roomed.ensures ∙ c.if-not-roomed.false, (sym c.counted.ensures ∙ c.if-not-counted.false, (le-leb _ _ c.if-out-lt768.false, tt))) }

@@ -1,12 +1,12 @@
 -- `answer_end` is refused, or answers what is held.
-use Rattle.pieces.specs.PromiseLaws.{lending, fills-refused, fills-passed}
+use mathlib.Core.Path.{ap, subst}
+use Rattle.squares.specs.Refusals.{refused_by}
+use Rattle.tables.specs.Tables.{Tables}
+use Rattle.pieces.specs.Leaves.{Refuses}
+use Rattle.pieces.specs.PromiseLaws.{lending}
 use Rattle.replay.proofs.answers.answer_end.Goals as goal
 
-pub returns-then-refused-ne0 : goal.returns-then-refused-ne0
-returns-then-refused-ne0 c = fills-refused c.refuse-refused.ensures c.if-refused-ne0.true
-
-pub fill_last-requires : goal.fill_last-requires
-fill_last-requires c = lending c.refuse-refused.ensures c.if-refused-ne0.false
-
-pub returns : goal.returns
-returns c = fills-passed c.refuse-refused.ensures c.if-refused-ne0.false c.fill_last.ensures
+pub fill_last-filled-requires : goal.fill_last-filled-requires
+fill_last-filled-requires c =
+    let a = c.args in
+    lending (subst (λ (t : Tables). Refuses t a.held.now a.out.now (refused_by c.refuse.result)) c.seen.ensures c.refuse.ensures) (ap refused_by c.in_ok-refuse.was)

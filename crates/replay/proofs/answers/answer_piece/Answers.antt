@@ -1,12 +1,12 @@
 -- `answer_piece` is refused, or answers line after line.
-use Rattle.pieces.specs.PromiseLaws.{lending, fills-refused, fills-passed}
+use mathlib.Core.Path.{ap, subst}
+use Rattle.squares.specs.Refusals.{refused_by}
+use Rattle.tables.specs.Tables.{Tables}
+use Rattle.pieces.specs.Leaves.{Refuses}
+use Rattle.pieces.specs.PromiseLaws.{lending}
 use Rattle.replay.proofs.answers.answer_piece.Goals as goal
 
-pub returns-then-refused-ne0 : goal.returns-then-refused-ne0
-returns-then-refused-ne0 c = fills-refused c.refuse-refused.ensures c.if-refused-ne0.true
-
-pub fill_lines-requires : goal.fill_lines-requires
-fill_lines-requires c = lending c.refuse-refused.ensures c.if-refused-ne0.false
-
-pub returns : goal.returns
-returns c = fills-passed c.refuse-refused.ensures c.if-refused-ne0.false c.fill_lines.ensures
+pub fill_lines-filled-requires : goal.fill_lines-filled-requires
+fill_lines-filled-requires c =
+    let a = c.args in
+    lending (subst (λ (t : Tables). Refuses t a.held.now a.out.now (refused_by c.refuse.result)) c.seen.ensures c.refuse.ensures) (ap refused_by c.in_ok-refuse.was)

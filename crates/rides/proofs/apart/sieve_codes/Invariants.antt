@@ -1,12 +1,7 @@
--- `sieve_codes`: what its loop keeps, and the number that falls with each turn.
-use Prim.Native.Nat.{◌-◌}
-use lib.ListN.{length}
+-- `sieve_codes`: what its loop keeps.
 use Rattle.rides.specs.Apart.{code_out}
 use Rattle.rides.specs.ApartLaws.{Sieving}
 use Rattle.rides.proofs.apart.sieve_codes.Given as goal
 
 abbrev pub invariant-loop-i : goal.invariant-loop-i
 invariant-loop-i l = Sieving (code_out l.s l.r) l.initial.codes l.codes l.i l.kept
-
-abbrev pub decreases-loop-i : goal.decreases-loop-i
-decreases-loop-i l = length l.initial.codes - l.i

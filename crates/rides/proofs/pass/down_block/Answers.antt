@@ -4,8 +4,8 @@ use borrow.Author.Rules.{rules}
 use Rattle.rides.specs.PassLaws.{down_ends, sink-room, down-turns}
 use Rattle.rides.proofs.pass.down_block.Goals as goal
 
-pub returns-then-come-next : goal.returns-then-come-next
-returns-then-come-next c = down_ends c.requires (omega arith) (search rules) c.sink.ensures
+pub returns-then-keys-next : goal.returns-then-keys-next
+returns-then-keys-next c = down_ends c.requires (omega arith) (search rules) c.sink.ensures
 
 pub sink-requires-2 : goal.sink-requires-2
 sink-requires-2 c = sink-room c.requires (omega arith) c.find_key.ensures

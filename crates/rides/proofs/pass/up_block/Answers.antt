@@ -4,8 +4,8 @@ use borrow.Author.Rules.{rules}
 use Rattle.rides.specs.PassLaws.{up_ends, up-stops, lift-room, up-turns}
 use Rattle.rides.proofs.pass.up_block.Goals as goal
 
-pub returns-then-gone-next : goal.returns-then-gone-next
-returns-then-gone-next c = up_ends c.requires (omega arith) (search rules) c.lift.ensures
+pub returns-then-keys-next : goal.returns-then-keys-next
+returns-then-keys-next c = up_ends c.requires (omega arith) (search rules) c.lift.ensures
 
 pub returns-then-at-u : goal.returns-then-at-u
 returns-then-at-u c = up-stops c.requires (omega arith) c.find_key.ensures c.if-at-u.true

@@ -7,5 +7,5 @@ use Rattle.rosters.proofs.inside.fill_row.Goals as goal
 
 pub returns : goal.returns
 returns c =
-    let within : let a = c.args in car_between a.cars.now a.spots.now c.columns_of-columns.result c.rows_of-rows.result ≡ car_within a.s a.cars.now a.spots.now a.r = ap₂ (car_between _ _) c.columns_of-columns.ensures c.rows_of-rows.ensures ∙ by-bands c.requires.parked.shape c.requires.fits _ _ c.shared_slice_known-2-1.given in
+    let within : let a = c.args in car_between a.cars.now a.spots.now c.bands_of-bands.result.columns c.bands_of-bands.result.rows ≡ car_within a.s a.cars.now a.spots.now a.r = ap₂ (car_between _ _) c.bands_of-bands.ensures.columns c.bands_of-bands.ensures.rows ∙ by-bands c.requires.parked.shape c.requires.fits _ _ c.shared_slice_known-2-1.given in
     row-marked c.requires.row_there _ within _ c.mark_cars.ensures

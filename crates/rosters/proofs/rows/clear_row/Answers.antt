@@ -3,4 +3,4 @@ use Rattle.rosters.specs.RosterLaws.{row-filled}
 use Rattle.rosters.proofs.rows.clear_row.Goals as goal
 
 pub returns : goal.returns
-returns c = row-filled c.requires _ c.fill_bytes.ensures
+returns c = row-filled c.requires _ (c.fill.ensures.after (λ y h. h))

@@ -1,7 +1,7 @@
 -- `square_at`: down the levels, each level's squares taken off the place, until the rest is a number of the level.
+use Rattle.std.proofs.Common.{◌≡◌, arith, rules}
 use Rattle.squares.specs.ShapeLaws.{blocks-small}
 use Rattle.soundness.specs.EntryLaws.{walk_begins, walk-turns, walk-found, walk_ends}
-use borrow.Author.Rules.{rules}
 use Rattle.soundness.proofs.entry.square_at.Goals as goal
 
 pub overflow_mul-count : goal.overflow_mul-count
@@ -17,4 +17,6 @@ pub loop-level-preserved : goal.loop-level-preserved
 loop-level-preserved c = walk-turns c.requires c.loop-level.invariant c.loop-level-test.true c.if-number-count.false
 
 pub returns : goal.returns
-returns c = walk_ends c.requires c.loop-level.invariant c.loop-level-test.false
+returns c =
+    let e : c.loop-level.level ≡ c.args.s.k = omega (arith, c.loop-level.invariant.deep) in
+    rw e at (walk_ends c.requires c.loop-level.invariant c.loop-level-test.false)

@@ -1,16 +1,11 @@
--- `frees`: each entry passed is the free mark.
-use borrow.Author.Tests.{eq-eqb, ne_eqb}
-use Rattle.soundness.specs.EveryLaws.{passed_none, passed-more, passed-end, passed-stop}
+-- `frees`: each entry is asked, up to the first that is not the free mark.
+use Rattle.std.proofs.Common.{ℕ, eqb, ◌∙◌, rules, tests}
+use Rattle.std.proofs.lemmas.Iterator.{YieldsList-from_slice}
+use Rattle.std.proofs.lemmas.Iterator.Search.{all_from_yields_List}
+use Rattle.soundness.specs.EveryLaws.{every-list}
+use Rattle.tables.specs.Derived.{free}
 use Rattle.soundness.proofs.lists.frees.Goals as goal
 
-pub loop-i-init : goal.loop-i-init
-loop-i-init c = passed_none _ _
-
-pub returns-then-entries-i : goal.returns-then-entries-i
-returns-then-entries-i c = passed-stop _ _ _ c.loop-i-test.true (ne_eqb _ _ c.if-entries-i.true)
-
-pub loop-i-preserved : goal.loop-i-preserved
-loop-i-preserved c = passed-more _ _ _ c.loop-i.invariant c.loop-i-test.true (eq-eqb _ _ c.if-entries-i.false)
-
 pub returns : goal.returns
-returns c = passed-end _ _ _ c.loop-i.invariant c.loop-i-test.false
+returns c =
+    all_from_yields_List (λ (x : ℕ). eqb x free) _ _ _ c.all.ensures.ran (YieldsList-from_slice c.args.entries.now (cc)) (λ x b q k. search (rules, tests)) ∙ every-list (λ (x : ℕ). eqb x free) 0 c.args.entries.now

@@ -4,11 +4,11 @@ use borrow.Author.Tests.{not-true, not-false}
 use Rattle.soundness.specs.StartLaws.{parts-many, parts_low, parts-high}
 use Rattle.soundness.proofs.lists.parts.Goals as goal
 
-pub returns-then-u-n : goal.returns-then-u-n
-returns-then-u-n c = parts-many _ _ _ _ c.if-u-n.true
+pub returns-then-entries-n : goal.returns-then-entries-n
+returns-then-entries-n c = parts-many _ _ _ _ c.if-entries-n.true
 
 pub returns-then-not-ends_below : goal.returns-then-not-ends_below
-returns-then-not-ends_below c = parts_low _ _ _ _ c.if-u-n.false (sym c.ends_below.ensures ∙ not-true _ c.if-not-ends_below.true-raw)
+returns-then-not-ends_below c = parts_low _ _ _ _ c.if-entries-n.false (sym c.ends_below.ensures ∙ not-true _ c.if-not-ends_below.true-raw)
 
 pub returns : goal.returns
-returns c = c.starts_above.ensures ∙ parts-high _ _ _ _ c.if-u-n.false (sym c.ends_below.ensures ∙ not-false _ c.if-not-ends_below.false-raw)
+returns c = c.starts_above.ensures ∙ parts-high _ _ _ _ c.if-entries-n.false (sym c.ends_below.ensures ∙ not-false _ c.if-not-ends_below.false-raw)

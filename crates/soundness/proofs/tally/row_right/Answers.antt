@@ -1,16 +1,14 @@
--- `row_right`: each number passed is that of the row.
-use borrow.Author.Tests.{eq-eqb, ne_eqb}
-use Rattle.soundness.specs.EveryLaws.{passed_none, passed-more, passed-end, passed-stop}
+-- `row_right`: the zone's numbers are those of the row.
+use Rattle.std.proofs.Common.{◌+◌, ◌-◌, ◌*◌, refl}
+use Rattle.std.proofs.lemmas.Slice.Eq.{slice_eq-Decides}
+use Rattle.std.proofs.lemmas.Bool.Decides.{Decides-eqb}
+use Rattle.soundness.specs.EveryLaws.{every-part}
+use Rattle.tables.specs.Tables.{tally}
+use borrow.Rule.Slice.PartMut.{mid_of}
 use Rattle.soundness.proofs.tally.row_right.Goals as goal
 
-pub loop-j-init : goal.loop-j-init
-loop-j-init c = passed_none _ _
-
-pub returns-then-tallies-from : goal.returns-then-tallies-from
-returns-then-tallies-from c = passed-stop _ _ _ c.loop-j-test.true (ne_eqb _ _ c.if-tallies-from.true)
-
-pub loop-j-preserved : goal.loop-j-preserved
-loop-j-preserved c = passed-more _ _ _ c.loop-j.invariant c.loop-j-test.true (eq-eqb _ _ c.if-tallies-from.false)
-
 pub returns : goal.returns
-returns c = passed-end _ _ _ c.loop-j.invariant c.loop-j-test.false
+returns c =
+    let from = c.args.z * tally in
+    let row = mid_of from (from + tally - from) c.args.tallies.now in
+    every-part c.args.tallies.now c.args.row.now from (from + tally) tally refl c.requires.tally_in_bounds c.requires.row_len _ (slice_eq-Decides Decides-eqb row c.args.row.now _ c.eq.ensures)

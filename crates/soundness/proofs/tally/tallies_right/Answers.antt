@@ -1,21 +1,13 @@
--- `tallies_right`: each zone passed has the numbers that its row and the cars' records give.
-use mathlib.Core.Path.{sym, ◌∙◌}
-use borrow.Author.Tests.{not-true, not-false}
-use Rattle.soundness.specs.EveryLaws.{passed_none, passed-more, passed-end, passed-stop}
-use borrow.Author.Rules.{rules}
+-- `tallies_right`: each zone is asked, up to the first whose numbers are not what its row and the cars' records give.
+use Rattle.std.proofs.Common.{refl, ◌∙◌, arith, rules, tests}
+use Rattle.std.proofs.lemmas.Iterator.{YieldsList-from_range}
+use Rattle.std.proofs.lemmas.Iterator.Search.{all_from_yields_List}
+use Rattle.std.specs.Prelude.{length}
+use Rattle.soundness.specs.Tests.{tally_right}
+use Rattle.soundness.specs.EveryLaws.{every-range}
 use Rattle.soundness.proofs.tally.tallies_right.Goals as goal
 
-pub loop-z-init : goal.loop-z-init
-loop-z-init c = passed_none _ _
-
-pub tally_right-requires : goal.tally_right-requires
-tally_right-requires c = record { row_there = c.requires.by_index _ c.loop-z-test.true; tally_in_bounds = search rules }
-
-pub returns-then-not-tally_right : goal.returns-then-not-tally_right
-returns-then-not-tally_right c = passed-stop _ _ _ c.loop-z-test.true (sym c.tally_right.ensures ∙ not-true _ c.if-not-tally_right.true-raw)
-
-pub loop-z-preserved : goal.loop-z-preserved
-loop-z-preserved c = passed-more _ _ _ c.loop-z.invariant c.loop-z-test.true (sym c.tally_right.ensures ∙ not-false _ c.if-not-tally_right.false-raw)
-
 pub returns : goal.returns
-returns c = passed-end _ _ _ c.loop-z.invariant c.loop-z-test.false
+returns c =
+    let p = tally_right c.args.cars.now c.args.rosters.now c.args.tallies.now (length c.args.cars.now) in
+    all_from_yields_List p _ _ _ c.all.ensures.ran (YieldsList-from_range 0 c.args.Z c.args.Z refl (omega arith)) (λ x b q k. search (rules, tests)) ∙ every-range p c.args.Z

@@ -1,10 +1,6 @@
--- `shift_to`: what its loop keeps, and the number that falls with each turn.
-use Rattle.std.proofs.Common.{◌-◌}
+-- `shift_to`: what its loop keeps.
 use Rattle.starts.specs.Shift.{Shifting}
 use Rattle.starts.proofs.shift.shift_to.Given as goal
 
 abbrev pub invariant-loop-q : goal.invariant-loop-q
 invariant-loop-q l = Shifting l.initial.list l.list l.p l.end l.v l.q
-
-abbrev pub decreases-loop-q : goal.decreases-loop-q
-decreases-loop-q l = l.end - l.q

@@ -1,10 +1,6 @@
--- `set_starts`: what its loop keeps, and the number that falls with each turn.
-use Rattle.std.proofs.Common.{◌-◌, length}
+-- `set_starts`: what its loop keeps.
 use Rattle.starts.specs.RankLaws.{Ranking}
 use Rattle.starts.proofs.starts.set_starts.Given as goal
 
 abbrev pub invariant-loop-i : goal.invariant-loop-i
 invariant-loop-i l = Ranking l.initial.starts l.entries l.starts l.p l.i
-
-abbrev pub decreases-loop-i : goal.decreases-loop-i
-decreases-loop-i l = length l.entries - l.i

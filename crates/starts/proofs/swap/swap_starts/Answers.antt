@@ -1,5 +1,5 @@
 -- `swap_starts` passes the keys of both lists, the lower of the next two first: from key to key one more or one less.
-use Rattle.std.proofs.Common.{◌+◌, arith}
+use Rattle.std.proofs.Common.{◌+◌, refl, arith}
 use Rattle.starts.specs.SwapStartLaws.{pass-begins, NextKey, next-key, next-room, first-in, second-in, pass-drops, pass-takes, pass-ends}
 use Rattle.starts.proofs.swap.swap_starts.Goals as goal
 
@@ -20,7 +20,7 @@ shift_to-p-requires c = let k = c.loop-i.invariant.part in record { p_in_bounds 
 pub loop-i-preserved-then-is_lower : goal.loop-i-preserved-then-is_lower
 loop-i-preserved-then-is_lower c =
     let told : NextKey c.loop-i.starts c.loop-i.i c.args.gone c.loop-i.j (c.args.at + c.args.come) c.is_lower.result = next-key (omega arith) c.is_lower.ensures in
-    pass-drops c.requires c.loop-i.invariant told c.shift_to-p.ensures c.if-is_lower.true c.place_after-next.ensures (omega arith) c.wrapping_sub_u32-by.ensures.value
+    pass-drops c.requires c.loop-i.invariant told c.shift_to-p.ensures c.if-is_lower.true c.place_after-next.ensures (omega arith) (omega (arith, c.loop-i.auto.by-fits))
 
 pub bounds-starts-j : goal.bounds-starts-j
 bounds-starts-j c =
@@ -33,7 +33,7 @@ shift_to-p-requires-in-loop-i c = let k = c.loop-i.invariant.part in record { p_
 pub loop-i-preserved : goal.loop-i-preserved
 loop-i-preserved c =
     let told : NextKey c.loop-i.starts c.loop-i.i c.args.gone c.loop-i.j (c.args.at + c.args.come) c.is_lower.result = next-key (omega arith) c.is_lower.ensures in
-    pass-takes c.requires c.loop-i.invariant told c.shift_to-p-in-loop-i.ensures c.if-is_lower.false c.place_after-next-in-loop-i.ensures c.wrapping_add_u32-by.ensures.value
+    pass-takes c.requires c.loop-i.invariant told c.shift_to-p-in-loop-i.ensures c.if-is_lower.false c.place_after-next-in-loop-i.ensures refl
 
 pub shift_to-requires : goal.shift_to-requires
 shift_to-requires c = let k = c.loop-i.invariant.part in record { p_in_bounds = omega (arith, k.most, k.long); end_in_bounds = omega (arith, k.long) }

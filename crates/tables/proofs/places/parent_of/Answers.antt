@@ -5,6 +5,3 @@ use Rattle.tables.proofs.places.parent_of.Goals as goal
 
 pub overflow_mul-blocks : goal.overflow_mul-blocks
 overflow_mul-blocks c = let h = blocks-small _ c.requires in search rules
-
-pub overflow_cast-blocks : goal.overflow_cast-blocks
-overflow_cast-blocks c = let h = blocks-small _ c.requires in search rules

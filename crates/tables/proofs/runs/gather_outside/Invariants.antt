@@ -1,11 +1,7 @@
--- `gather_outside`: what its loop keeps, and the number that falls with each turn.
-use Rattle.std.proofs.Common.{◌-◌}
+-- `gather_outside` keeps the zones that do not hold the cell.
 use Rattle.tables.specs.Runs.{outside}
-use Rattle.tables.specs.GatherLaws.{Gathering}
+use Rattle.tables.specs.contracts.runs.fn.gather_outside.gather_kept as closure
 use Rattle.tables.proofs.runs.gather_outside.Given as goal
 
-abbrev pub invariant-loop-i : goal.invariant-loop-i
-invariant-loop-i l = Gathering (outside l.zones l.x l.y) l.starts l.entries l.p l.initial.out l.n l.out l.i l.end l.count
-
-abbrev pub decreases-loop-i : goal.decreases-loop-i
-decreases-loop-i l = l.end - l.i
+abbrev pub ghost-gather_kept : goal.ghost-gather_kept
+ghost-gather_kept a = let k = closure.captures a.keeps in outside k.zones.now k.cell.x k.cell.y

@@ -1,14 +1,10 @@
 -- The number of a cell's square: on level 0 the block, else the block's squares and the bits interleaved.
 use Rattle.std.proofs.Common.{◌+◌, ◌*◌, ◌<◌, rules}
-use Rattle.squares.specs.SquareLaws.{bits_small}
-use Rattle.squares.specs.ShapeLaws.{tops, number_is, number_small, number-none}
+use Rattle.squares.specs.ShapeLaws.{number_is, number_small, number-none}
 use Rattle.squares.proofs.shape.Shape.number.Goals as goal
 
 pub returns-then-level-eq0 : goal.returns-then-level-eq0
 returns-then-level-eq0 c = number-none _ _ _ c.if-level-eq0.true c.block.ensures
-
-pub interleaved-local-requires : goal.interleaved-local-requires
-interleaved-local-requires c = bits_small (tops c.requires.on_level c.side-side.ensures c.side_on-part.ensures _ _)
 
 pub overflow_mul-result : goal.overflow_mul-result
 overflow_mul-result c =

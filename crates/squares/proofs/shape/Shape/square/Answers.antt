@@ -4,16 +4,6 @@ use Rattle.squares.specs.Squares.{corner_x, corner_y}
 use Rattle.squares.specs.ShapeLaws.{squares-small, across-fits, place-fits, corner-fits, column-few, row-few}
 use Rattle.squares.proofs.shape.Shape.square.Goals as goal
 
-pub overflow_mul-column : goal.overflow_mul-column
-overflow_mul-column c =
-    let few : c.args.n ≤ 65536 = omega (arith, squares-small _ c.requires.on_level.shape _ c.requires.on_level.level) in
-    across-fits _ _ (column-few _ _ _ few) c.two_to-across.ensures.small
-
-pub overflow_add-column : goal.overflow_add-column
-overflow_add-column c =
-    let few : c.args.n ≤ 65536 = omega (arith, squares-small _ c.requires.on_level.shape _ c.requires.on_level.level) in
-    place-fits _ _ _ (column-few _ _ _ few) c.two_to-across.ensures.small (omega arith)
-
 pub overflow_mul-row : goal.overflow_mul-row
 overflow_mul-row c =
     let few : c.args.n ≤ 65536 = omega (arith, squares-small _ c.requires.on_level.shape _ c.requires.on_level.level) in

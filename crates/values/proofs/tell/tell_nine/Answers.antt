@@ -1,6 +1,0 @@
--- Nine values are stored one after the other.
-use mathlib.Core.Path.{refl}
-use Rattle.values.proofs.tell.tell_nine.Goals as goal
-
-pub returns : goal.returns
-returns c = record { number = refl; values = cc }
