@@ -2,7 +2,7 @@
 use Rattle.std.specs.Prelude.{ℕ, ◌+◌, ◌-◌, ◌<◌, ◌≤◌, ◌≡◌, refl, is_ok, Bool, true, false, cond, ltb, eqb, length, get_or, take, drop, replicate}
 use Rattle.std.specs.declared.result.Result.{Result}
 use Rattle.std.specs.declared.result.Result.TheVariants.{Ok, Err}
-use Rattle.std.proofs.Common.{ap, sym, ◌∙◌, arith, le-ltb, length-append, length-take, length-drop, take_all, take-add}
+use Rattle.std.proofs.Common.{ap, sym, ◌∙◌, arith, le-ltb, length-append, length-take, length-drop, take_all, take-add, eqb-true, eq-eqb}
 use Rattle.std.proofs.Math.Path.{subst}
 use mathlib.Core.List.{List, [], ◌∷◌, ◌++◌}
 use Rattle.std.proofs.lemmas.List.{length-replicate}
@@ -180,14 +180,24 @@ module _ {t u v : Tables} {piece b c c' o o' o'' : List ℕ} {at : ℕ} {said : 
   pub carry-stops : Carried (both t v) piece b c' o'' false
   carry-stops = record { tables = λ e. absurd (true-not-false false e refl); held = λ e. absurd (true-not-false false e refl); carries = carry-turns.carries }
 
-pub carry-ends : {t u : Tables} {piece b c o o' : List ℕ} {at : ℕ} → Carrying t u piece b c o o' at → length piece ≤ at → Carried (both t u) piece b c o' true
-carry-ends {t} {u} {piece} {b} {c} {o} {o'} {at} w h =
-    let all : take at piece ≡ piece = take_all at piece h in
-    record {
-      tables = λ e. w.tables ∙ ap (λ (l : List ℕ). tables_of t (feed (held_in b) l).ended) all;
-      held = λ e. w.held ∙ ap (λ (l : List ℕ). holding (feed (held_in b) l).held) all;
-      carries = w.carries;
-    }
+pub carry-ends : {t u : Tables} {piece b c o o' : List ℕ} {at : ℕ} → Carrying t u piece b c o o' at → Carried (both t u) piece b c o' (eqb at (length piece))
+carry-ends {t} {u} {piece} {b} {c} {o} {o'} {at} w = record {
+  tables = λ e. w.tables ∙ ap (λ (l : List ℕ). tables_of t (feed (held_in b) l).ended) (all (ended e));
+  held = λ e. w.held ∙ ap (λ (l : List ℕ). holding (feed (held_in b) l).held) (all (ended e));
+  carries = w.carries;
+}
+  where
+    ended : eqb at (length piece) ≡ true → at ≡ length piece
+    ended e = eqb-true _ _ e
+
+    all : at ≡ length piece → take at piece ≡ piece
+    all e = take_all at piece (omega arith)
+
+-- gone through whole
+pub carry-done : {t u : Tables} {piece b c o o' : List ℕ} {at : ℕ} → Carrying t u piece b c o o' at → length piece ≤ at → Carried (both t u) piece b c o' true
+carry-done {piece = piece} {at = at} w h =
+    let all : eqb at (length piece) ≡ true = eq-eqb _ _ (omega (arith, w.within)) in
+    rw all at (carry-ends w)
 
 -- ---- piece after piece
 
