@@ -97,6 +97,7 @@ fn see(
     )
 }
 
+// Two buffers, here and where they are handed on, and no struct of them: C lends each by itself.
 // Places or moves a car of a team: stores both, writes the zones that the car enters and those that it leaves, lowest first,
 // and answers how many squares were looked into and how many zones were written to each buffer.
 pub fn report_car(

@@ -1,10 +1,11 @@
 // A car's record and its position, written.
+// They stand flat in a table, as C lends them, so they are written number by number, as `with_spot` does.
 ghost use Rattle.std.specs.Prelude.{◌+◌, ◌*◌, ◌<◌, ◌≤◌, ◌≡◌, length, set};
 ghost use Rattle.tables.specs.Steps.{with_spot};
 
 use position::Position;
 
-// Car c's record: 0 off the map, 1 on it.
+// Car c's record: 0 off the map, else its team plus 1.
 pub fn write_car(cars: &mut [u32], c: usize, v: u32)
     requires { c < length cars.old }
     ensures { cars.new ≡ set cars.old c v }

@@ -1,4 +1,5 @@
 // A zone's record, written and cleared.
+// It stands flat in a table, as C lends it, so it is written number by number, as `with_zone` does.
 ghost use Rattle.std.specs.Prelude.{◌+◌, ◌*◌, ◌≤◌, ◌≡◌, length};
 ghost use Rattle.tables.specs.Steps.{with_zone, without_zone};
 

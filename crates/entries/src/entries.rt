@@ -1,4 +1,5 @@
 // The keys of one zone taken out of the entries in one pass, the starts with them.
+// A list goes with a number where what stands behind it is read or written too, as the clause says.
 ghost use Rattle.std.specs.Prelude.{◌≤◌, length};
 ghost use Rattle.entries.specs.Drops.{Packed, Passed};
 

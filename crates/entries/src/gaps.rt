@@ -1,4 +1,5 @@
 // Keys taken out of the entries: each is found by the starts, and what lies between two of them moves down as a range.
+// A list goes with a number where what stands behind it is read or written too, as the clause says.
 ghost use Rattle.std.specs.Prelude.{◌≡◌, ◌≤◌, length};
 ghost use Rattle.entries.specs.Gaps.{SlideRoom, slid, Skips, Finds, Closes};
 

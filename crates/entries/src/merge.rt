@@ -1,4 +1,5 @@
 // Keys merged into the entries.
+// A list goes with a number where what stands behind it is read or written too, as the clause says.
 ghost use Rattle.std.specs.Prelude.{◌≡◌, ℕ, ◌+◌, ◌-◌, ◌≤◌, List, length, take};
 ghost use Rattle.entries.specs.Merge.{moved_up, Limit, Seat, Merged};
 

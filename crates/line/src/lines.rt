@@ -1,4 +1,5 @@
 // The lines of an input that comes in pieces.
+// A list goes with a number where what stands behind it is read or written too, as the clause says.
 ghost use Rattle.std.specs.Prelude.{◌≤◌, length};
 ghost use Rattle.line.specs.Leaves.{Holds};
 ghost use Rattle.line.specs.Takes.{Room, Takes};

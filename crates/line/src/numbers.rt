@@ -61,6 +61,7 @@ fn read_coordinate(field: &[u8]) -> Option<u64>
     read_digits(field, 16)
 }
 
+// A test of the base, and no closure: as `value` says it.
 // A field in base 10 is a decimal, one in base 16 a coordinate.
 pub fn read_value(field: &[u8], base: u64) -> Option<u64>
     ensures { result ≡ value base field.now }

@@ -38,6 +38,7 @@ pub struct Scoring {
     pub levels: u32,
 }
 
+// Eight names and no array: a clause names each team's number (DECISIONS 63).
 // How many cars of each team are in a zone, and the team that holds it, 0 for nobody.
 #[derive(Clone, Copy)]
 pub struct Standing {

@@ -11,15 +11,14 @@ pub fn wide(x: u32) -> usize
     x as usize
 }
 
-// Whether the last of the first n numbers is below x.
-pub fn ends_below(list: &[u32], x: usize, n: usize) -> bool
-    requires { n ≤ length list.now }
-    ensures { result ≡ ends_below list.now x n }
+// Whether the last number is below x, if there is one.
+pub fn ends_below(list: &[u32], x: usize) -> bool
+    ensures { result ≡ ends_below list.now x (length list.now) }
 {
-    if n == 0 {
-        return true;
+    match list.last() {
+        Some(y) => wide(*y) < x,
+        None => true,
     }
-    wide(list[n - 1]) < x
 }
 
 // How many numbers at the front of `list` are below x.

@@ -59,7 +59,7 @@ fn goes_on(left: usize, room: usize) -> bool
     0 < left && 768 <= room
 }
 
-// The first n bytes stay held: the others are 0, and the last says n.
+// The first n bytes stay held: the others are 0, and the last says n. So the buffer goes with n, and no part of it.
 fn keep_held(held: &mut [u8], n: usize)
     requires { (length held.old ≡ 82) × (n ≤ 81) }
     ensures { held.new ≡ holding (take n held.old) }

@@ -11,6 +11,7 @@ fn put_byte(out: &mut [u8], at: usize, byte: u8) -> usize
     at + 1
 }
 
+// By hand, and no `Display`: the buffer is lent, and where it ends the text is cut (`Puts`).
 // The decimal digits of n.
 fn put_text(out: &mut [u8], at: usize, n: u32) -> usize
     requires { at ≤ 2048 }

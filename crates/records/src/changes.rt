@@ -201,6 +201,7 @@ pub fn remove_record(town: ZoneTables<'_>, zone: u32, out: &mut [u8]) -> usize
     write_removed(answer, out)
 }
 
+// x and y are two patterns of bits, of which `position_of` makes the position.
 // P: a car placed or moved. A log has no teams: each car's is 0.
 pub fn report_record(town: ReportTables<'_>, car: u32, x: u32, y: u32, out: &mut [u8]) -> usize
     requires { Roomed (given_report town) }

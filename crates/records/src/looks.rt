@@ -10,6 +10,7 @@ use tables::ReadTables;
 use texts::{write_roster, write_searched};
 
 // S: the zones that hold a position.
+// x and y are two patterns of bits, of which `position_of` makes the position.
 pub fn search_record(town: ReadTables<'_>, x: u32, y: u32, out: &mut [u8]) -> usize
     requires { Roomed (given_read town) }
     ensures { Replies (lent_read town) (call_of (Search x y)) out.old out.new result }

@@ -1,4 +1,6 @@
 // A piece of the log, and its end.
+// The struct of the tables is taken apart and made again: of one that is passed on whole the check does not know what is behind its
+// references afterwards.
 ghost use Rattle.std.specs.Prelude.{[], length};
 ghost use Rattle.tables.specs.Lent.{lent_open};
 ghost use Rattle.pieces.specs.Pieces.{held_in, fill, finish, Fills};

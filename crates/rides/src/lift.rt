@@ -1,4 +1,5 @@
 // A block of the entries in which keys are taken up before others are dropped: it moves up, the last range first.
+// A list goes with a number where what stands behind it is read or written too, as the clause says.
 ghost use Rattle.std.specs.Prelude.{◌<◌, ◌≤◌, length};
 ghost use Rattle.rides.specs.Blocks.{SeatIn, LastDrop, LiftRoom, Lifts};
 

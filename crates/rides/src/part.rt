@@ -1,4 +1,5 @@
 // The keys of an old place and of a new one, parted: those that are dropped and those that are taken up.
+// A list goes with a number where what stands behind it is read or written too, as the clause says.
 ghost use Rattle.std.specs.Prelude.{◌+◌, ◌≤◌, length};
 ghost use Rattle.rides.specs.Part.{Parted};
 

@@ -31,6 +31,7 @@ fn run_end(gone: &[u32], come: &[u32], m: usize, most: usize, up: bool) -> usize
     most
 }
 
+// A block's bounds go one by one, as in `lift`. Which way it goes is a test, and no closure: each way is one call.
 // Exchanges the keys of a block that moves up. Answers where the block after it begins. At a key that is not there it stops.
 fn up_block(keys: Keys, entries: &mut [u32], from: usize, u: usize, m: usize, next: usize) -> usize
     requires { StepRoom keys.gone.now keys.come.now entries.old from u m next true }

@@ -1,4 +1,5 @@
 // A zone's keys exchanged for those of its new place.
+// A list goes with a number where what stands behind it is read or written too, as the clause says.
 ghost use Rattle.std.specs.Prelude.{take, drop};
 ghost use Rattle.starts.specs.SwapStarts.{SwapKeys};
 ghost use Rattle.rides.specs.Blocks.{SwapRoom, Swaps};

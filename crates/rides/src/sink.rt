@@ -35,6 +35,7 @@ fn draw_in(entries: &mut [u32], from: usize, end: usize, by: usize)
     entries[left..end].fill(FREE);
 }
 
+// A block's bounds one by one, as in `lift`: no plainer as a struct, since each clause and call would name every field.
 // Exchanges the keys of a block: from m up to i those dropped, up to j those taken up, which are as many or fewer.
 // At a key that is not there it stops.
 pub fn sink(keys: Keys, entries: &mut [u32], from: usize, end: usize, m: usize, i: usize, j: usize)

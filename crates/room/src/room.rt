@@ -21,7 +21,7 @@ pub fn places_in(head: &[u32], starts: &[u32]) -> usize
     }
 }
 
-// The position with these bits.
+// The position with these bits, one pattern for each coordinate.
 pub fn position_of(x: u32, y: u32) -> Position
     ensures { result ≡ position_of x y }
 {

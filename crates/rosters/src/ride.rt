@@ -1,4 +1,5 @@
 // A zone's row set anew, and the cars that come on it and go from it.
+// The cars that come and those that go are written to two buffers, as C lends them, each by itself.
 ghost use Rattle.std.specs.Prelude.{◌*◌, ◌≤◌, ◌≡◌, length};
 ghost use Rattle.squares.specs.Bounds.{Fits};
 ghost use Rattle.tables.specs.Slots.{car_between};

@@ -1,4 +1,5 @@
 // The lists of the squares: whether the entries in use are the right ones, and whether each list starts where it should.
+// A list goes with a number where what stands behind it is read or written too, as the clause says.
 ghost use Rattle.std.specs.Prelude.{◌-◌, ◌≤◌, ◌≡◌, length};
 ghost use Rattle.soundness.specs.Tests.{every, rises_at, free_at, starts_above, parts, start_right, entries_right, Fitting};
 
@@ -60,7 +61,7 @@ fn parts(entries: &[u32], key: usize, n: usize) -> bool
     if entries.len() < n {
         return false;
     }
-    if !ends_below(entries, key, n) {
+    if !ends_below(&entries[..n], key) {
         return false;
     }
     starts_above(entries, key, n)

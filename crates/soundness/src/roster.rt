@@ -41,8 +41,8 @@ fn bytes_clear(row: &[u8]) -> bool
     clear
 }
 
-// Whether each byte of a zone's row says if its roster has the car. The cars' tables come apart: that each spot is an f32 is
-// known of a slice that is a parameter, and tried with a struct, the proof did not close.
+// Whether each byte of a zone's row says if its roster has the car. The cars' two tables are passed as they are: tried as `Cars`,
+// the proof did not close, since that each spot is an f32 is known only of a slice passed by itself.
 fn row_right(zones: Zones<'_>, cars: &[u32], spots: &[f32], z: usize, row: &[u8]) -> bool
     requires fitting { Fitting zones.s zones.zones.now zones.many }
     requires riding { Riding zones.s cars.now spots.now (length row.now) }

@@ -1,4 +1,5 @@
 // The starts moved by ranges.
+// A list goes with a number where what stands behind it is read or written too, as the clause says.
 ghost use Rattle.std.specs.Prelude.{◌≤◌, length, take};
 ghost use Rattle.starts.specs.Shift.{Shifts, plus, less, steps, Moved};
 

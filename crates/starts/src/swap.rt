@@ -1,4 +1,5 @@
 // The starts moved by keys that are dropped and others that are taken up, in one pass.
+// A list goes with a number where what stands behind it is read or written too, as the clause says.
 ghost use Rattle.std.specs.Prelude.{take, drop};
 ghost use Rattle.starts.specs.SwapStarts.{SwapKeys, Swapped};
 

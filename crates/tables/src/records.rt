@@ -1,4 +1,5 @@
 // The records: the shape and the capacities, a zone and its rectangle, a car, its team and its position.
+// A record stands flat in a table, as C lends it, so these functions take it number by number, each as a definition does.
 ghost use Rattle.std.specs.Prelude.{◌≡◌, ◌+◌, ◌*◌, ◌<◌, ◌≤◌, length, slice_index};
 ghost use Rattle.tables.specs.Tables.{head_of, shape_in, opened_by, rect_in, stands_in, placed_in, spot_in};
 ghost use Rattle.tables.specs.Slots.{team_fits, slot_in, car_between};

@@ -21,7 +21,7 @@ fn front(n: usize, list: &[u32]) -> usize
 pub fn write_bad(out: &mut [u8]) -> usize
     ensures { Answers out.old out.new result (answer 63 (number 14 ∷ [])) }
 {
-    write_number(out, b'?', 14)
+    write_number(out, b'?', Refusal::Record.number())
 }
 
 // M: no field.

@@ -58,6 +58,7 @@ fn has_room(s: Shape, old: Rect, new: Rect, used: usize, many: usize) -> bool
     used + come <= many + gone
 }
 
+// Two buffers, here and where they are handed on, and no struct of them: C lends each by itself.
 // Moves a zone by so many columns and rows, and puts the cars inside on its roster. Squares that its old and its new cut have keep
 // their entry. Answers how many squares were dropped and taken up, and how many cars entered and left by the ride.
 pub fn ride_zone(
