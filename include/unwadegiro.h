@@ -34,7 +34,7 @@
  * On tables that are not sound (unwadegiro_sound), a call still ends, stays within what it was lent and gives every
  * refusal but 12 as said; what an accepted call answers and writes there is not promised, open, sound and where apart.
  *
- * Stack. On x86-64 a report takes 568 bytes of stack beside its arguments. docs/COSTS.md has every call.
+ * Stack. On x86-64 a report takes 472 bytes of stack beside its arguments. docs/COSTS.md has every call.
  *
  * Teams. A car on the map has a team, 0 to 7: the one that it came with, until it leaves. It may come back with another.
  * Team 0 are the spectators: they are on rosters and counted, and hold nothing. The holder of a zone is the team from 1 to

@@ -22,21 +22,21 @@ pub extern "C" fn unwadegiro_lengths(
 ) -> u32
     ensures { Gives 8 (lengths_gives (shape k P Q) zones cars entries) [] values.old values.new result }
 {
+    let Ok(shape) = Shape::new(k, P, Q) else {
+        return tell_refusal::<8>(Refusal::Shape, values);
+    };
     let o = Opening {
-        shape: Shape { k, P, Q },
+        shape,
         zones,
         cars,
         entries,
     };
-    if !o.shape.allowed() {
-        return tell_refusal::<8>(Refusal::Shape, values);
-    }
     if !tables::roomy(o) {
         return tell_refusal::<8>(Refusal::Capacity, values);
     }
     let Z = zones as usize;
     let C = cars as usize;
-    let starts = o.shape.squares() as usize + 1;
+    let starts = shape.squares() as usize + 1;
     tell_values(
         [
             6,

@@ -10,6 +10,7 @@ use tables::LeaveTables;
 
 // Takes a car off the map: writes the zones that it leaves, lowest first, and answers how many squares were looked into and
 // how many zones there are.
+#[inline(always)]
 pub fn leave_map(town: LeaveTables<'_>, car: u32, left: &mut [u32]) -> Result<Looked, Refusal>
     ensures { Keeps (lent_leave town) (left_map car left result) }
 {

@@ -15,6 +15,7 @@ use squares::{Cell, Refusal, Shape};
 use tables::{ReadTables, ReportTables};
 
 // The cell that a report goes to.
+#[inline(always)]
 fn admit(
     town: ReadTables<'_>,
     car: u32,
@@ -58,6 +59,7 @@ fn enter(s: Shape, town: ReadTables<'_>, cell: Cell, entered: &mut [u32]) -> Cro
 }
 
 // The zones that car c enters and leaves on its way to a cell.
+#[inline(always)]
 fn see(
     s: Shape,
     town: ReadTables<'_>,
@@ -100,6 +102,7 @@ fn see(
 // Two buffers, here and where they are handed on, and no struct of them: C lends each by itself.
 // Places or moves a car of a team: stores both, writes the zones that the car enters and those that it leaves, lowest first,
 // and answers how many squares were looked into and how many zones were written to each buffer.
+#[inline(always)]
 pub fn report_car(
     town: ReportTables<'_>,
     car: u32,

@@ -11,6 +11,7 @@ mod small; // small.rt: a small town, sound and then with one number wrong at a 
 
 use position::{Position, float_of};
 use squares::{Rect, Shape};
+use std::fmt::Display;
 use std::io;
 use tell::{Tell, say, say_list};
 
@@ -192,7 +193,27 @@ fn all(rt: &impl Print) -> io::Result<()> {
     ride_cases::ride_case(rt, Shape { k: 1, P: 4, Q: 2 })
 }
 
-// A write that fails ends the cases, and nothing more is said of it.
+// Prints on where a write failed: what could not be written is left out, and the cases go on.
+#[derive(Clone, Copy)]
+struct Onward<'a, R>(&'a R);
+
+impl<R: Print> Print for Onward<'_, R> {
+    fn print<D: Display + Drop>(&self, value: D) -> io::Result<()> {
+        let _ = self.0.print(value);
+        Ok(())
+    }
+
+    fn println<D: Display + Drop>(&self, value: D) -> io::Result<()> {
+        let _ = self.0.println(value);
+        Ok(())
+    }
+
+    fn write_all(&self, bytes: &[u8]) -> io::Result<()> {
+        let _ = self.0.write_all(bytes);
+        Ok(())
+    }
+}
+
 fn main(rt: HostRuntime) {
-    let _ = all(&rt);
+    let _ = all(&Onward(&rt));
 }

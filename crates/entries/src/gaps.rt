@@ -14,7 +14,9 @@ pub fn move_down(list: &mut [u32], from: usize, end: usize, by: usize)
     if by == 0 {
         return;
     }
-    list.copy_within(from..end, from - by);
+    for i in from..end {
+        list[i - by] = list[i];
+    }
 }
 
 // How many of the entries from `from` on, of so many, lie before the place of a key, by its start.

@@ -11,8 +11,8 @@ pub fn move_up(entries: &mut [u32], from: usize, end: usize, by: usize)
     requires { end + by ≤ length entries.old }
     ensures { entries.new ≡ moved_up from by (end - from) entries.old }
 {
-    if from < end {
-        entries.copy_within(from..end, from + by);
+    for i in (from..end).rev() {
+        entries[i + by] = entries[i];
     }
 }
 

@@ -21,9 +21,15 @@ fn hold(part: &[u8], held: &mut [u8], n: usize) -> usize
     requires { Room held.old n }
     ensures { Holds part.now held.old held.new n result }
 {
-    let more = part.len().min(81 - n);
-    held[n..n + more].copy_from_slice(&part[..more]);
-    n + more
+    let mut m = n;
+    for byte in part {
+        if m == 81 {
+            return 81;
+        }
+        held[m] = *byte;
+        m += 1;
+    }
+    m
 }
 
 // The bytes of a piece from a place on, up to its next feed or its end, after the first n of the buffer.

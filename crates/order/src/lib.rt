@@ -48,10 +48,11 @@ pub fn is_lower(list: &[u32], i: usize, n: usize, j: usize, end: usize) -> bool
 pub fn slide(part: &mut [u32], x: u32)
     ensures { part.new ≡ take (length part.old) (x ∷ part.old) }
 {
-    let n = part.len();
-    if 0 < n {
-        part.copy_within(..n - 1, 1);
-        part[0] = x;
+    let mut next = x;
+    for i in 0..part.len() {
+        let here = part[i];
+        part[i] = next;
+        next = here;
     }
 }
 

@@ -1,9 +1,9 @@
 -- The floats of a whole side are those on the map, and the cell of one is that of its bits without the sign. Assumes nothing.
-use Prim.Native.Nat.{ℕ, ◌+◌, ◌-◌, ◌*◌, ◌%◌, ◌^◌, ◌≤◌, ◌<◌, zero-le}
+use Prim.Native.Nat.{ℕ, ◌+◌, ◌-◌, ◌*◌, ◌%◌, ◌^◌, ◌≤◌, ◌<◌, zero-le, min}
 use mathlib.Core.Path.{◌≡◌, refl, sym, ◌∙◌}
 use mathlib.Core.Logic.{⊎_elim}
 use mathlib.Core.Bool.{true, false, not, ◌&&◌, ◌||◌, and-true}
-use native.Mathlib.Nat.{lt_irrefl, lt_of_lt_of_le}
+use native.Mathlib.Nat.{min-eq_left, min-eq_right, lt_irrefl, lt_of_lt_of_le}
 use native.Mathlib.Omega.{arith}
 use lib.Dec.{T, ltb, leb, eqb}
 use lib.Ieee.{Float, binary32, to_bits, is_nan, fits}
@@ -27,6 +27,14 @@ whole-sign bits =
     let f : fraction (bits % 2 ^ 31) ≡ fraction bits = omega arith in
     rw (e, f)
 
+-- ---- the smaller of a floor and the last cell
+
+pub before_last : (cell side : ℕ) → cell < side → cell ≡ min cell (side - 1)
+before_last cell side h = let l : cell ≤ side - 1 = omega arith in sym (min-eq_left l)
+
+pub is_last : (cell side : ℕ) → side ≤ cell → side - 1 ≡ min cell (side - 1)
+is_last cell side h = let l : side - 1 ≤ cell = omega arith in sym (min-eq_right l)
+
 module _ {side : ℕ} (h : Side side) where
   pub whole-side : Stretch 0 side side
   whole-side = record { some = h.some; within = omega arith; small = h.small }
@@ -45,6 +53,9 @@ module _ {side : ℕ} (h : Side side) where
       parts : (not (is_nan x) ≡ true) × (in_range side (to_bits binary32 x) ≡ true)
       unfolding on_map
       parts = and→ (not (is_nan x)) (in_range side (to_bits binary32 x)) (sym on-side ∙ on)
+
+      pub is_number : T (not (is_nan x))
+      is_number = rw parts.0 tt
 
       at_most : whole (to_bits binary32 x) ≤ side * 2 ^ 149
       unfolding in_range

@@ -9,6 +9,7 @@ use squares::Refusal;
 use tables::{ReadTables, car_room, placed_in, stands_in, zone_room};
 
 // What a call on a standing zone asks: 3, 4, 7.
+#[inline(always)]
 pub fn refuse_zone(town: ReadTables<'_>, zone: u32) -> Result<(), Refusal>
     ensures { refused_by result ≡ bars (given_read town.entry) (removing zone) }
 {
@@ -25,6 +26,7 @@ pub fn refuse_zone(town: ReadTables<'_>, zone: u32) -> Result<(), Refusal>
 }
 
 // What a call on a car on the map asks: 3, 5, 8.
+#[inline(always)]
 pub fn refuse_car(town: ReadTables<'_>, car: u32) -> Result<(), Refusal>
     ensures { refused_by result ≡ bars (given_read town.entry) (ask_where car) }
 {

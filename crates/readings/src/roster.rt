@@ -7,6 +7,7 @@ use squares::Refusal;
 use tables::ReadTables;
 
 // Writes the cars of a zone's roster, lowest first, and answers how many they are.
+#[inline(always)]
 pub fn roster_of_zone(town: ReadTables<'_>, zone: u32, inside: &mut [u32]) -> Result<usize, Refusal>
     ensures { Keeps (lent_read town) (roster_told zone inside result) }
 {

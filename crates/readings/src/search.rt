@@ -11,6 +11,7 @@ use tables::ReadTables;
 
 // Writes the zones that hold a position, lowest first, and answers how many squares were looked into and how many
 // zones there are.
+#[inline(always)]
 pub fn search_zones(town: ReadTables<'_>, p: Position, found: &mut [u32]) -> Result<Looked, Refusal>
     ensures { Keeps (lent_read town) (searched p found result) }
 {

@@ -128,7 +128,11 @@ fn tell(rt: &impl Eprint, ended: Result<(), Failure>) -> ExitCode
         ),
         Err(Failure::Unwritten(error)) => ("the answers cannot be written", error),
     };
-    let _ = eprintln!(rt; "log: {what}: {error}");
+    let _ = match error.kind() {
+        // A write took no byte: no call of the system failed, so there is no reason to name.
+        ErrorKind::WriteZero => eprintln!(rt; "log: {what}"),
+        _ => eprintln!(rt; "log: {what}: {error}"),
+    };
     ExitCode::FAILURE
 }
 

@@ -1,5 +1,4 @@
 // The starts: for each place, how many of the entries lie before it.
-// A list goes with a number where what stands behind it is read or written too, as the clause says.
 ghost use Rattle.std.specs.Prelude.{◌≡◌, ◌≤◌, length};
 ghost use Rattle.squares.specs.Shape.{most_entries};
 ghost use Rattle.starts.specs.Starts.{ranks, Reaches, Fills};

@@ -1,5 +1,6 @@
 // The eight tables of a town as they are lent to a call: what it may write is lent to be written, the others to be read.
 // Five structs and four `seen`, and no parameter or trait for them: which tables a call writes is the type, and each clause names its own.
+// Where what it costs to hand one on would be felt, the function is compiled into its caller, and the compiler takes the struct apart.
 ghost use Rattle.std.specs.Prelude.{◌≡◌};
 ghost use Rattle.tables.specs.Lent.{given_read, given_open, given_zone, given_report, given_leave};
 
@@ -111,7 +112,7 @@ impl<'a> ReportTables<'a> {
     {
         ReadTables {
             head: self.head,
-            zones: self.zones,
+            zones: self.zones, // a report writes no zone
             cars: &*self.cars,
             spots: &*self.spots,
             starts: self.starts,
@@ -131,8 +132,8 @@ impl<'a> LeaveTables<'a> {
             head: self.head,
             zones: self.zones,
             cars: &*self.cars,
-            spots: self.spots,
-            starts: self.starts,
+            spots: self.spots, // a car that leaves keeps its position
+            starts: self.starts, // a car that leaves moves no start
             entries: self.entries,
             rosters: &*self.rosters,
             tallies: &*self.tallies,

@@ -8,4 +8,4 @@ pub use answers::{
     tell_added, tell_done, tell_holder, tell_looked, tell_number, tell_reported, tell_ridden,
     tell_scoring, tell_soundness, tell_square, tell_where, tell_written,
 };
-pub use tell::{tell_refusal, tell_values};
+pub use tell::{tell_all, tell_refusal, tell_values};

@@ -22,12 +22,19 @@ fn store_all(told: &[usize], values: &mut [u32])
     }
 }
 
+// A number is returned, and the values are stored.
+pub fn tell_all<const N: usize>(r: u32, told: [usize; N], values: &mut [u32]) -> u32
+    ensures { Tells (r ∷ told.entry) values.old values.new result }
+{
+    store_all(&told, values);
+    r
+}
+
 // 0 is returned, and the values are stored.
 pub fn tell_values<const N: usize>(told: [usize; N], values: &mut [u32]) -> u32
     ensures { Tells (0 ∷ told.entry) values.old values.new result }
 {
-    store_all(&told, values);
-    0
+    tell_all(0, told, values)
 }
 
 // The number of a refusal is returned, and each of N values is 0.

@@ -7,15 +7,14 @@ ghost use Rattle.promises.specs.Promise.{bars, Keeps};
 ghost use Rattle.promises.specs.Events.{opened};
 
 use model::Opening;
-use squares::Refusal;
+use squares::{Refusal, Shape};
 use tables::{OpenTables, ReadTables};
 
 fn refuse_open(town: ReadTables<'_>, o: Opening) -> Result<(), Refusal>
     ensures { refused_by result ≡ bars (given_read town.entry) (opening o) }
 {
-    if !o.shape.allowed() {
-        return Err(Refusal::Shape);
-    }
+    let Shape { k, P, Q } = o.shape;
+    Shape::new(k, P, Q)?;
     if !tables::roomy(o) {
         return Err(Refusal::Capacity);
     }
@@ -26,6 +25,7 @@ fn refuse_open(town: ReadTables<'_>, o: Opening) -> Result<(), Refusal>
 }
 
 // Writes a town with no zone and no car, whatever lay in the tables.
+#[inline(always)]
 pub fn open_town(town: OpenTables<'_>, o: Opening) -> Result<(), Refusal>
     ensures { Keeps (lent_open town) (opened o result) }
 {

@@ -1,10 +1,13 @@
--- `move_up` copies the range up, the last number first.
-use Rattle.std.proofs.Common.{sym, ◌∙◌, arith}
-use Rattle.entries.specs.MergeLaws.{moved_all, moved-over}
+-- `move_up` has moved the numbers from i up to the end: moving the others leaves what moving all does.
+use Rattle.std.proofs.Common.{sym, refl, ◌∙◌, arith, rules}
+use Rattle.entries.specs.MergeLaws.{moved_more, moved_all}
 use Rattle.entries.proofs.merge.move_up.Goals as goal
 
-pub returns-then-from-end : goal.returns-then-from-end
-returns-then-from-end c = c.copy_within.ensures.after ∙ sym (moved-over c.args.from c.args.by _ c.args.entries.now (omega (arith, c.requires)))
+pub loop-i-init : goal.loop-i-init
+loop-i-init c = (search rules, (refl, refl))
 
-pub returns-else-from-end : goal.returns-else-from-end
-returns-else-from-end c = sym (moved_all _ _ _ _ (omega arith))
+pub loop-i-preserved : goal.loop-i-preserved
+loop-i-preserved c = (search rules, (search rules, c.loop-i.invariant.1.1 ∙ moved_more _ _ _ _ (omega arith)))
+
+pub returns : goal.returns
+returns c = sym (c.loop-i.invariant.1.1 ∙ moved_all _ _ _ _ (omega arith))
